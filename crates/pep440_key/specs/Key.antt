@@ -1,4 +1,4 @@
--- Bytes in whose order versions stand: each component of a version's key, its numbers in front of an end.
+-- Bytes that sort as versions do: each component of a version's key, its numbers before an end.
 use Rattle.std.specs.Prelude.{ℕ, zero, suc, ◌+◌, ◌/◌, ◌%◌, ◌^◌, nat_lt, if◌then◌else◌, List, [], ◌∷◌, ◌++◌}
 use Rattle.std.specs.List.{flat_map}
 use Rattle.std.specs.declared.cmp.Ordering.{Ordering}
@@ -7,16 +7,17 @@ use Rattle.std.specs.Cmp.Lexicographic.{slice_cmp}
 use Rattle.pep440_text.specs.Record.{VersionRecord}
 use Rattle.pep440_version.specs.Order.{key_of}
 
--- the order of texts of bytes: the first byte that differs decides, and what has ended comes first
+-- the order of byte strings: the first byte that differs decides, and a prefix comes first
 abbrev pub bytes_cmp : List ℕ → List ℕ → Ordering
 bytes_cmp = slice_cmp nat_cmp
 
--- a number in so many bytes, the highest in front
+-- a number in `count` bytes, the highest first
 abbrev pub big_endian : ℕ → ℕ → List ℕ
 big_endian zero number = []
 big_endian (suc count) number = number / 256 ^ count ∷ big_endian count (number % 256 ^ count)
 
--- a number: up to 251 a byte from 1 to 252, and past that a byte that tells whether two, four or eight follow
+-- a number: up to 251 a byte from 1 to 252, and past that a byte that says whether two, four or eight
+-- follow
 unfoldable pub number_bytes : ℕ → List ℕ
 number_bytes number =
     if nat_lt number 252 then (number + 1) ∷ []

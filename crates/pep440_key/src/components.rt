@@ -11,7 +11,7 @@ use crate::number::{push_number, push_numbers};
 use pep440_version::{LocalSegment, Prerelease, PrereleaseKind, Version};
 use std::alloc::AllocError;
 
-/// The numbers without the zeros at their end.
+/// Returns the numbers without the zeros at their end.
 #[tactic(auto, using(pep440_version::proofs::Stripped::stripped_rules))]
 fn without_end_zeros(numbers: &[u64]) -> &[u64]
     ensures { result.now ≡ stripped numbers.now }
@@ -46,8 +46,8 @@ pub(crate) fn rank(kind: PrereleaseKind) -> u64
     }
 }
 
-/// The place among the versions of one release: below every suffix, a developmental release, the kinds of
-/// pre-release, the release, a post-release.
+/// Returns the rank of a version among those of its release, from the lowest: below every suffix, a
+/// developmental release, the kinds of pre-release, the release, a post-release.
 pub(crate) fn class(version: &Version) -> u64
     ensures { result ≡ class_of version.now }
 {
@@ -105,8 +105,8 @@ pub(crate) fn push_absent_last(key: &mut Vec<u8>, number: Option<u64>) -> Result
     }
 }
 
-/// Adds the bytes of a text at the end, one for each byte below 252 and three for others, and a 0, which ends
-/// them: they stand in the order of texts, and no other text's begin with them.
+/// Appends the bytes of a text, one for each byte below 252 and three for others, and a 0, which ends them:
+/// they sort as the texts do, and are no prefix of another text's.
 pub fn push_text(key: &mut Vec<u8>, bytes: &[u8]) -> Result<(), AllocError>
     ensures { OnOk result (key.new.items ≡ key.old.items ++ component_bytes bytes.now) }
 {

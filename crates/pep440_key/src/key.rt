@@ -13,10 +13,9 @@ use crate::number::push_numbers;
 use pep440_version::Version;
 use std::alloc::{AllocError, Global};
 
-/// The bytes of a version, in whose order versions stand: the keys of two versions compare byte by byte, as
-/// `memcmp` and `[u8]` do, just as the versions do, and are equal exactly where these are, as those of `1.0`
-/// and `1`. No key is the front of another version's, so that bytes may follow it, as the key of what stands
-/// beside the version.
+/// Returns the sort key of a version: the keys of two versions compare byte by byte, as `memcmp` and `[u8]`
+/// do, just as the versions do, and are equal exactly where these are, as those of `1.0` and `1`. No key is
+/// a prefix of another version's, so that bytes may follow it, as the key of the next column.
 ///
 /// Linear in the version; takes memory for the key, which has 14 bytes for `1.2.3`.
 pub fn version_key(alloc: Global, version: &Version) -> Result<Vec<u8>, AllocError>
@@ -37,7 +36,7 @@ fn push_version(key: &mut Vec<u8>, version: &Version) -> Result<(), AllocError>
     Ok(())
 }
 
-/// Writes the epoch, the release and the place among the versions of that release.
+/// Appends the epoch, the release and the version's rank within that release.
 fn push_front(key: &mut Vec<u8>, version: &Version) -> Result<(), AllocError>
     ensures { OnOk result (key.new.items ≡ key.old.items ++ flat_map component_bytes
         ((version.now.epoch ∷ []) ∷ stripped version.now.release ∷ (class_of version.now ∷ []) ∷ [])) }
@@ -47,7 +46,7 @@ fn push_front(key: &mut Vec<u8>, version: &Version) -> Result<(), AllocError>
     push_numbers(key, &[class(version)])
 }
 
-/// Writes what decides between versions of one release that have one place there.
+/// Appends what decides between versions of one release and one rank.
 fn push_suffixes(key: &mut Vec<u8>, version: &Version) -> Result<(), AllocError>
     ensures { OnOk result (key.new.items ≡ key.old.items ++ flat_map component_bytes
         (pre_key version.now.pre ∷ post_key version.now.post version.now.most

@@ -1,5 +1,4 @@
-//! Laws over the definitions that the contracts cite. The functions do nothing: each one's contract is its
-//! law.
+//! Laws of version keys. The functions do nothing: each one's contract is its law.
 
 ghost use Rattle.std.specs.Prelude.{◌≡◌, ◌↔◌, ◌++◌, List, ℕ, IsTrue};
 ghost use Rattle.std.specs.Ordering.{ordering_then, nat_cmp};
@@ -7,8 +6,8 @@ ghost use Rattle.pep440_text.specs.Record.{VersionRecord};
 ghost use Rattle.pep440_version.specs.Order.{version_cmp, version_eq};
 ghost use Rattle.pep440_key.specs.Key.{bytes_cmp, number_bytes, component_bytes, version_bytes};
 
-/// Keys compare as their versions do, and are the same exactly where these are equal; where bytes follow the
-/// keys, those decide between equal versions alone.
+/// Keys compare as their versions do, and are identical exactly where these are equal; bytes that follow
+/// the keys decide between equal versions alone.
 pub fn keys_compare_as_versions()
     ensures order { (a b : VersionRecord)
         → bytes_cmp (version_bytes a) (version_bytes b) ≡ version_cmp a b }
@@ -19,8 +18,8 @@ pub fn keys_compare_as_versions()
         ≡ ordering_then (version_cmp a b) (bytes_cmp x y) }
 {}
 
-/// The bytes of numbers compare as the numbers do, and those of texts as the texts; where bytes follow, those
-/// decide between equal ones alone. So they tell numbers and texts apart whatever follows them.
+/// The bytes of numbers compare as the numbers do, and those of texts as the texts; bytes that follow
+/// decide between equal ones alone. So numbers and texts are told apart whatever follows them.
 pub fn numbers_and_texts_compare()
     ensures numbers { (n m : ℕ) (x y : List ℕ)
         → bytes_cmp (number_bytes n ++ x) (number_bytes m ++ y)

@@ -1,5 +1,5 @@
-//! Keys of versions: bytes in whose order versions stand, for a sort of bytes, a column of a table or a
-//! search tree that knows nothing of versions.
+//! Sort keys of versions: bytes that compare as the versions do, for a sort of bytes, a column of a table
+//! or a search tree that knows nothing of versions.
 #![tactic(auto)]
 
 mod components;

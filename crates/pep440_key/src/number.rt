@@ -5,17 +5,17 @@ ghost use Rattle.pep440_key.specs.Key.{number_bytes, component_bytes};
 
 use std::alloc::AllocError;
 
-/// The greatest number that is one byte.
+/// The greatest number that is written as one byte.
 const MOST_IN_A_BYTE: u64 = 251;
-/// In front of two bytes, of four and of eight.
+/// The byte before a number of two bytes; the next two constants are those before four and before eight.
 const TWO_FOLLOW: u8 = 253;
 
 const FOUR_FOLLOW: u8 = 254;
 
 const EIGHT_FOLLOW: u8 = 255;
 
-/// Adds the bytes of a number at the end, 1 to 9 of them, which no other number's begin with. They rise with
-/// the number.
+/// Appends the bytes of a number, 1 to 9 of them, which are no prefix of another number's. They sort as the
+/// numbers do.
 #[tactic(auto, unfolding(crate::specs::Key::number_bytes))]
 pub fn push_number(key: &mut Vec<u8>, number: u64) -> Result<(), AllocError>
     ensures { OnOk result (key.new.items ≡ key.old.items ++ number_bytes number) }
@@ -32,7 +32,7 @@ pub fn push_number(key: &mut Vec<u8>, number: u64) -> Result<(), AllocError>
     }
 }
 
-/// Writes a byte and others behind it.
+/// Appends a byte and others after it.
 fn push_bytes(key: &mut Vec<u8>, first: u8, bytes: &[u8]) -> Result<(), AllocError>
     ensures { OnOk result (key.new.items ≡ key.old.items ++ first ∷ bytes.now) }
 {
@@ -40,7 +40,7 @@ fn push_bytes(key: &mut Vec<u8>, first: u8, bytes: &[u8]) -> Result<(), AllocErr
     key.extend_from_slice(bytes)
 }
 
-/// Writes the numbers, and what ends them.
+/// Appends the numbers, and a byte that ends them.
 pub(crate) fn push_numbers(key: &mut Vec<u8>, numbers: &[u64]) -> Result<(), AllocError>
     ensures { OnOk result (key.new.items ≡ key.old.items ++ component_bytes numbers.now) }
 {

@@ -1,10 +1,10 @@
--- What the errors of operators print.
+-- The prints of the errors of operators.
 use Rattle.std.specs.Prelude.{ℕ, List, ◌++◌, codes}
 use Rattle.std.specs.String.{string_bytes}
 use Rattle.pep440_operator.specs.declared.operator.OperatorParseError.{OperatorParseError}
 use Rattle.pep440_operator.specs.declared.operator.OperatorParseError.TheVariants.{Memory, Unknown}
 
--- the print of why a text is no operator
+-- the print of why a text is not an operator
 abbrev pub operator_error_text : OperatorParseError → List ℕ
 operator_error_text Memory = codes "out of memory"
 operator_error_text (Unknown text) =

@@ -1,4 +1,4 @@
--- What a text is read as, where it is to be an operator.
+-- The reading of a text as an operator.
 use Rattle.std.specs.Prelude.{ℕ, ◌==◌, ◌||◌, not, Bool, if◌then◌else◌, List, codes, Option, Some, None}
 use Rattle.std.specs.Prelude.{Result, Ok, Err}
 use Rattle.std.specs.Str.{bytes_eq}
@@ -10,7 +10,7 @@ use Rattle.pep440_operator.specs.declared.operator.Operator.TheVariants.{Greater
 use Rattle.pep440_operator.specs.declared.operator.OperatorParseError.{OperatorParseError}
 use Rattle.pep440_operator.specs.declared.operator.OperatorParseError.TheVariants.{Memory, Unknown}
 
--- the operator that a text is; the star follows the version and is no part of it
+-- the operator that a text is; the star follows the version and is not part of it
 unfoldable pub operator_of : List ℕ → Option Operator
 operator_of text =
     if bytes_eq text (codes "==") then Some Equal
@@ -30,11 +30,11 @@ abbrev pub operator_or_text : List ℕ → Option Operator → Result Operator (
 operator_or_text text None = Err text
 operator_or_text text (Some operator) = Ok operator
 
--- the operator of a text, or the text that is none
+-- the operator of a text, or the text where it is not one
 abbrev pub operator_reading : List ℕ → Result Operator (List ℕ)
 operator_reading text = operator_or_text text (operator_of text)
 
--- the text that an error tells to be no operator
+-- the text that an error reports as not an operator
 abbrev pub told_operator : OperatorParseError → Option (List ℕ)
 told_operator Memory = None
 told_operator (Unknown text) = Some (string_bytes text)

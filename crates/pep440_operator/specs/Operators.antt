@@ -1,4 +1,4 @@
--- What operators say of the versions beside them (PEP 440, "Version specifiers").
+-- The meaning of operators for their versions (PEP 440, "Version specifiers").
 use Rattle.std.specs.Prelude.{Bool, true, false, Option, Some, None}
 use Rattle.pep440_operator.specs.declared.operator.Operator.{Operator}
 use Rattle.pep440_operator.specs.declared.operator.Operator.TheVariants.{Equal, EqualStar, ExactEqual}
@@ -6,7 +6,7 @@ use Rattle.pep440_operator.specs.declared.operator.Operator.TheVariants.{NotEqua
 use Rattle.pep440_operator.specs.declared.operator.Operator.TheVariants.{LessThan, LessThanEqual}
 use Rattle.pep440_operator.specs.declared.operator.Operator.TheVariants.{GreaterThan, GreaterThanEqual}
 
--- whether a star stands behind the version
+-- whether a star follows the version
 abbrev pub is_star : Operator → Bool
 is_star Equal = false
 is_star EqualStar = true
@@ -46,7 +46,7 @@ is_tilde LessThanEqual = false
 is_tilde GreaterThan = false
 is_tilde GreaterThanEqual = false
 
--- what an operator becomes by a star behind its version
+-- the operator with a star after its version, where there is one
 abbrev pub starred : Operator → Option Operator
 starred Equal = Some EqualStar
 starred EqualStar = None
@@ -72,7 +72,7 @@ negated LessThanEqual = Some GreaterThan
 negated GreaterThan = Some LessThanEqual
 negated GreaterThanEqual = Some LessThan
 
--- whether the operator's version says where the versions that are taken begin, as in `>=1.2` and `==1.2`
+-- whether the operator's version is a lower bound of the accepted versions, as in `>=1.2` and `==1.2`
 abbrev pub bounds_below : Operator → Bool
 bounds_below Equal = true
 bounds_below EqualStar = true

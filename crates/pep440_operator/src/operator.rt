@@ -1,4 +1,6 @@
 //! Operators.
+//!
+//! `===` negates to `!=`, as upstream has it, although `!=` is not the complement of `===`.
 
 ghost use Rattle.std.specs.Prelude.{◌≡◌, false, IfOk, Some, None, Err};
 ghost use Rattle.read_outcome.specs.Outcome.{Answers};
@@ -11,8 +13,8 @@ use std::alloc::Global;
 use std::error::Error;
 use std::fmt;
 
-/// How a specifier compares (PEP 440, "Version specifiers"). A star stands for every release that begins
-/// alike.
+/// How a specifier compares (PEP 440, "Version specifiers"). A star matches every release that begins with
+/// the given numbers.
 ///
 /// Prints as in a specifier's text, without the star, which follows the version there.
 #[derive(Clone, Copy, Debug, PartialEq, Eq, PartialOrd, Ord, Hash)]
@@ -61,6 +63,9 @@ impl Operator {
     /// version.
     ///
     /// Takes memory for the error alone, which keeps the text. Linear in the text.
+    ///
+    /// # Errors
+    /// `Unknown` with the text where it is not an operator; `Memory` where memory for that copy ran out.
     #[tactic(auto, unfolding(crate::specs::OperatorReading::operator_of))]
     pub fn from_str(alloc: Global, text: &str) -> Result<Operator, OperatorParseError>
         ensures operator { Answers (λ operator. operator) told_operator result (operator_reading text.now) }
@@ -83,11 +88,11 @@ impl Operator {
         }
     }
 
-    /// The operator of the negated sign: `!=` for `==` and `===`, `>=` for `<`, and none for `~=`.
+    /// Returns the operator of the negated sign: `!=` for `==` and `===`, `>=` for `<`; `None` for `~=`.
     ///
-    /// `==` and `!=`, with a star and without, take exactly what their negations refuse (PEP 440, "Version
-    /// exclusion"). `<` and `>` do not: both `<1.0` and `>=1.0` refuse `1.0.dev0`, and both `>1.0` and
-    /// `<=1.0` refuse `1.0.post1`.
+    /// `==` and `!=`, with a star and without, accept exactly what their negations reject (PEP 440,
+    /// "Version exclusion"). `<` and `>` do not: both `<1.0` and `>=1.0` reject `1.0.dev0`, and both `>1.0`
+    /// and `<=1.0` reject `1.0.post1`.
     pub fn negate(self) -> Option<Operator>
         ensures { result ≡ negated self }
     {
@@ -105,7 +110,7 @@ impl Operator {
         }
     }
 
-    /// Whether `.*` stands behind the version.
+    /// Returns whether `.*` follows the version.
     pub fn is_star(self) -> bool
         ensures { result ≡ is_star self }
     {
@@ -113,12 +118,12 @@ impl Operator {
     }
 }
 
-/// Why a text is no operator.
+/// Why a text is not an operator.
 #[derive(Debug, PartialEq, Eq, Drop)]
 pub enum OperatorParseError {
     /// Memory ran out.
     Memory,
-    /// The text.
+    /// The text is not an operator; it is kept here.
     Unknown(String),
 }
 

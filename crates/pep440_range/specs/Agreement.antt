@@ -9,7 +9,7 @@ use Rattle.pep440_operator.specs.declared.operator.Operator.TheVariants.{Greater
 use Rattle.pep440_specifier.specs.Building.{IsBuilt}
 use Rattle.pep440_specifier.specs.Matching.{SpecifierRecord, same_release}
 
--- a version as texts say it marks no end of a range
+-- a version as texts say it, without marks as the end of a range
 pub record IsSaid (version : VersionRecord) : Type 0 where
   pub no_least : version.least ≡ None
   pub no_most : version.most ≡ None
@@ -25,9 +25,9 @@ abbrev pub AreApart : VersionRecord → VersionRecord → Type 0
 AreApart version candidate =
     (same_release version candidate ≡ false) ⊎ ((version.post ≡ None) × (candidate.post ≡ None))
 
--- where an operator's range holds just the versions that it takes: nowhere for `===`, which goes by prints,
--- beside `<` apart from versions of a post-release's own release, and beside `>` apart from post-releases of
--- one release, or where the version is a final one
+-- where an operator's range holds just the versions that it accepts: nowhere for `===`, which compares
+-- prints; for `<` of a post-release not at versions of its own release; for `>` not at post-releases of one
+-- release, unless the version is a final one
 abbrev pub Agrees : Operator → VersionRecord → VersionRecord → Type 0
 Agrees Equal version candidate = Unit {0}
 Agrees EqualStar version candidate = Unit {0}
@@ -40,8 +40,8 @@ Agrees LessThanEqual version candidate = Unit {0}
 Agrees GreaterThan version candidate = AreApart version candidate ⊎ IsFinal version
 Agrees GreaterThanEqual version candidate = Unit {0}
 
--- where it does so for each candidate that is no post-release: not for `===`, nor for a post-release beside
--- `<` and `>`
+-- where this is so for each candidate that is not a post-release: not for `===`, nor for `<` and `>` of a
+-- post-release
 abbrev pub AgreesBesidePosts : Operator → VersionRecord → Type 0
 AgreesBesidePosts Equal version = Unit {0}
 AgreesBesidePosts EqualStar version = Unit {0}
@@ -54,8 +54,8 @@ AgreesBesidePosts LessThanEqual version = Unit {0}
 AgreesBesidePosts GreaterThan version = version.post ≡ None
 AgreesBesidePosts GreaterThanEqual version = Unit {0}
 
--- where it does so for each candidate: not for `===`, nor for a post-release beside `<`, nor for any but a
--- final release beside `>`
+-- where this is so for each candidate: not for `===`, nor for `<` of a post-release, nor for `>` of
+-- anything but a final release
 abbrev pub AgreesEverywhere : Operator → VersionRecord → Type 0
 AgreesEverywhere Equal version = Unit {0}
 AgreesEverywhere EqualStar version = Unit {0}
@@ -74,7 +74,7 @@ pub record IsAgreeing (candidate : VersionRecord) (specifier : SpecifierRecord) 
   pub said : IsSaid specifier.version
   pub agrees : Agrees specifier.operator specifier.version candidate
 
--- a specifier as texts say it, without `===` and without a post-release beside `<` or `>`
+-- a specifier as texts say it, without `===` and not `<` or `>` of a post-release
 pub record IsWithoutPosts (specifier : SpecifierRecord) : Type 0 where
   pub built : IsBuilt specifier
   pub said : IsSaid specifier.version

@@ -1,4 +1,4 @@
--- Where the range of an operator's negation holds just what the operator's own range does not.
+-- Where the range of an operator's negation is the complement of the operator's own range.
 use Rattle.std.specs.Prelude.{◌≡◌, true}
 use Rattle.pep440_version.specs.Record.{VersionRecord}
 use Rattle.pep440_version.specs.Changes.{is_prerelease}
@@ -9,7 +9,7 @@ use Rattle.pep440_operator.specs.declared.operator.Operator.TheVariants.{LessTha
 use Rattle.pep440_operator.specs.declared.operator.Operator.TheVariants.{GreaterThan, GreaterThanEqual}
 
 -- never for `<=` and `>`, which both leave out what lies just above their version; and for `<` and `>=`
--- beside a pre- or developmental release alone, since `<` leaves out those of another release
+-- only with a pre- or developmental release, since `<` leaves out those of another release
 abbrev pub IsComplemented : Operator → VersionRecord → Type 0
 IsComplemented Equal version = Unit {0}
 IsComplemented EqualStar version = Unit {0}

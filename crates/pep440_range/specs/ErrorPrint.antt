@@ -1,4 +1,4 @@
--- What the error of a range prints.
+-- The prints of the errors of ranges.
 use Rattle.std.specs.Prelude.{ℕ, List, codes}
 use Rattle.pep440_range.specs.declared.range_error.RangeError.{RangeError}
 use Rattle.pep440_range.specs.declared.range_error.RangeError.TheVariants.{NumberAtEnd, Memory}

@@ -1,4 +1,5 @@
--- What the ranges among releases of intervals' specifiers share, and lists of intervals one behind another.
+-- The intersection of the ranges among releases of intervals' specifiers, and lists of intervals one after
+-- another.
 use Rattle.std.specs.Prelude.{◌≡◌, ◌<◌, ◌^◌, true, List, [], ◌∷◌, Option}
 use Rattle.std.specs.Option.{is_some}
 use Rattle.std.specs.List.{AllByRecursion, list_all, list_any}
@@ -37,12 +38,12 @@ pub record IsBehind (first next : Interval) : Type 0 where
   pub ends : (p : Point VersionRecord) →
       goes_on_to version_cmp first.1 p ≡ true → goes_on_to version_cmp next.1 p ≡ true
 
--- and so each one that follows
+-- each interval begins and ends no earlier than the one before it
 abbrev pub AreBehind : Interval → List Interval → Type 0
 AreBehind first [] = Unit {0}
 AreBehind first (next ∷ later) = IsBehind first next × AreBehind next later
 
--- each gap behind an upper bound is one version or a minor release: a specifier leaves it out
+-- each gap after an upper bound is one version or a minor release: a specifier excludes it
 abbrev pub GapsAreSaid : Bound VersionRecord → List Interval → Type 0
 GapsAreSaid upper [] = Unit {0}
 GapsAreSaid upper (next ∷ later) = (is_some (gap_specifier upper next.0) ≡ true) × GapsAreSaid next.1 later

@@ -57,18 +57,18 @@ star_range version =
     option_map (λ end. up_to (first_of version.epoch version.release) (first_of version.epoch end))
     (last_raised version.release)
 
--- a version and what comes behind it, as far as all its release numbers but the last are kept
+-- the points from a version on, as far as all its release numbers but the last are kept
 abbrev pub compatible_range : VersionRecord → Option PointTest
 compatible_range version =
     option_map (λ end. up_to version (first_of version.epoch end))
     (last_raised (without_last version.release))
 
--- what comes before a version, without the pre-releases of one that is none
+-- the upper bound of what is below a version, without the pre-releases of one that is not a pre-release
 abbrev pub end_of_less : VersionRecord → VersionRecord
 end_of_less version = if is_prerelease version then version else record version { least = Some 0 }
 
--- what comes behind a version: behind a developmental or a post-release its next one, and else what is no
--- post-release of it
+-- what is above a version: for a developmental or a post-release from the next one on, and else what is not
+-- a post-release of it
 abbrev pub greater_range : VersionRecord → Option ℕ → Option ℕ → Option PointTest
 greater_range version (Some dev) post =
     option_map (λ next. from_bound (Included (record version { dev = Some next }))) (raised dev)
@@ -121,9 +121,9 @@ release_range_by GreaterThanEqual release = Some (from_bound (Included (release_
 abbrev pub release_range_of : SpecifierRecord → Option PointTest
 release_range_of specifier = release_range_by specifier.operator specifier.version.release
 
--- ---- what is answered
+-- ---- results
 
--- a range holds a point, where there is one
+-- whether there is a range and it holds a point
 abbrev pub range_holds : Option PointTest → Point VersionRecord → Bool
 range_holds None p = false
 range_holds (Some test) p = test p
@@ -132,7 +132,7 @@ range_holds (Some test) p = test p
 abbrev pub all_hold : List (Option PointTest) → PointTest
 all_hold ranges p = list_all (λ range. range_holds range p) ranges
 
--- an answer holds the points of the range, and is refused where there is none; only want of memory leaves
+-- a result holds the points of the range, and is an error where there is none; only lack of memory leaves
 -- both open
 abbrev pub Gives : Result (List (Point VersionRecord)) RangeError → Option PointTest → Type 0
 Gives (Ok set) range =
@@ -141,7 +141,7 @@ Gives (Ok set) range =
 Gives (Err NumberAtEnd) range = is_some range ≡ false
 Gives (Err Memory) range = Unit {0}
 
--- an answer holds the points that are in all of the ranges, and is refused where one is missing
+-- a result holds the points that are in all of the ranges, and is an error where one is missing
 abbrev pub GivesAll : Result (List (Point VersionRecord)) RangeError → List (Option PointTest) → Type 0
 GivesAll (Ok set) ranges =
     (list_all is_some ranges ≡ true)

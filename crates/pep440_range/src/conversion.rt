@@ -1,4 +1,7 @@
-//! The ranges of PEP 440.
+//! The ranges of specifiers, as PEP 440 has them.
+//!
+//! Conversions borrow their argument and clone only the versions that become endpoints (`==V.*` makes new
+//! ones). So `VersionSpecifier::version` also says that the specifier may be built.
 
 ghost use Rattle.std.specs.Prelude.{◌≡◌, ◌<◌, ◌≤◌, length, IfOk};
 ghost use Rattle.pep440_range.specs.Ranges.{Gives, range_of, range_by, first_of, star_range};
@@ -11,11 +14,14 @@ use pep440_version::Version;
 use std::alloc::{AllocError, Global};
 use version_ranges::Ranges;
 
-/// The range of a specifier (PEP 440, "Version specifiers"), with the bounds that `range_of` names;
-/// `NumberAtEnd` where a number of a bound would have to be greater than `u64::MAX`.
+/// Returns the range of a specifier (PEP 440, "Version specifiers"), with the bounds that `range_of` names.
 ///
-/// Goes a fixed number of times through the version. Takes memory for the bounds alone: a copy of the version
-/// where it is one.
+/// Goes a fixed number of times through the version. Takes memory for the bounds alone: a copy of the
+/// version where it is one.
+///
+/// # Errors
+/// `NumberAtEnd` where a number of a bound would have to be greater than `u64::MAX`; `Memory` where memory
+/// ran out.
 pub fn specifier_to_range(
     alloc: Global,
     specifier: &VersionSpecifier,
@@ -25,7 +31,7 @@ pub fn specifier_to_range(
     range_by(alloc, specifier.operator(), specifier.version())
 }
 
-/// The range of an operator and a version.
+/// Returns the range of an operator and a version.
 fn range_by(
     alloc: Global,
     operator: Operator,
@@ -47,7 +53,7 @@ fn range_by(
     }
 }
 
-/// The first developmental release of an epoch and release numbers.
+/// Returns the first developmental release of an epoch and release numbers.
 fn first_of(alloc: Global, epoch: u64, numbers: &[u64]) -> Result<Version, AllocError>
     requires { 0 < length numbers.now }
     ensures { IfOk result (λ version. version ≡ first_of epoch numbers.now) }
@@ -59,7 +65,7 @@ fn first_of(alloc: Global, epoch: u64, numbers: &[u64]) -> Result<Version, Alloc
     )
 }
 
-/// What begins with a version's epoch and release.
+/// Returns the range of the versions whose epoch and release begin with this version's.
 fn star_range(alloc: Global, version: &Version) -> Result<Ranges<Version>, RangeError>
     ensures { Gives result (star_range version.now) }
 {
@@ -69,7 +75,7 @@ fn star_range(alloc: Global, version: &Version) -> Result<Ranges<Version>, Range
     sets::up_to(alloc, first, end)
 }
 
-/// The version and what comes behind it, as far as its release numbers but the last are kept.
+/// Returns the range from the version on, as far as all its release numbers but the last are kept.
 fn compatible_range(alloc: Global, version: &Version) -> Result<Ranges<Version>, RangeError>
     requires { 2 ≤ length version.now.release }
     ensures { Gives result (compatible_range version.now) }
@@ -80,7 +86,7 @@ fn compatible_range(alloc: Global, version: &Version) -> Result<Ranges<Version>,
     sets::up_to(alloc, version.try_clone(alloc)?, end)
 }
 
-/// The version before which everything lies that is less than this one.
+/// Returns the exclusive upper bound of the versions that are less than this one.
 fn end_of_less(version: Version) -> Version
     ensures { result ≡ end_of_less version }
 {
@@ -91,7 +97,7 @@ fn end_of_less(version: Version) -> Version
     }
 }
 
-/// What is greater than a version.
+/// Returns the range of the versions greater than this one.
 fn greater_range(alloc: Global, version: &Version) -> Result<Ranges<Version>, RangeError>
     ensures { Gives result (greater_range version.now version.now.dev version.now.post) }
 {

@@ -1,5 +1,13 @@
-//! Laws over the definitions that the contracts cite. The functions do nothing: each one's contract is its
-//! law.
+//! Laws of specifiers' ranges. The functions do nothing: each one's contract is its law.
+//!
+//! A negation is not always the complement: PEP 440 takes pre-releases away from `<` and post-releases from
+//! `>`. With a version that is neither a pre- nor a developmental release, `<` and `>=` both leave out its
+//! developmental releases, and `<=` and `>` always leave out what is just above their version. The laws say
+//! so point by point. Among releases, where bounds are plain, each negation is the complement.
+//!
+//! The law on a list of intervals speaks of an ordered list, as `from_release_only_bounds` returns it. Its
+//! premises are what that call does not require: intervals begin and end in order, each gap is one version
+//! or a minor release, and there is an interval at all (the list of none accepts everything).
 
 ghost use Rattle.std.specs.Prelude.{◌≡◌, ◌≢◌, ℕ, [], ◌∷◌, List, map, Some, None, Ok, All, false};
 ghost use Rattle.std.specs.Option.{option_map};
@@ -30,9 +38,9 @@ ghost use Rattle.pep440_range.specs.Ranges.{release_range_of, release_range_by};
 use pep440_version::Version;
 use version_ranges::laws::intervals_hold_the_set;
 
-/// A specifier's range holds a version without a local part exactly where the specifier takes it; but for
-/// `===`, for versions of its own release beside `<` and a post-release, and for post-releases of one release
-/// beside `>` and any but a final release.
+/// A specifier's range holds a version without a local part exactly where the specifier accepts it. Not
+/// covered: `===`, `<` of a post-release with candidates of its own release, and `>` of a version that is
+/// not a final release with a candidate of its release where either is a post-release.
 pub fn ranges_agree_with_matching()
     ensures { (specifier : SpecifierRecord) (candidate : VersionRecord) (range : PointTest) →
         IsBuilt specifier → IsSaid specifier.version → IsSaid candidate → candidate.local ≡ [] →
@@ -41,8 +49,8 @@ pub fn ranges_agree_with_matching()
         range (At candidate) ≡ matches specifier.operator specifier.version candidate }
 {}
 
-/// A list's range, where there is one, holds a version without a local part exactly where the list takes it;
-/// under what `ranges_agree_with_matching` asks, of each member.
+/// A list's range, where there is one, holds a version without a local part exactly where the list accepts
+/// it, if each member meets the conditions of `ranges_agree_with_matching`.
 pub fn list_ranges_agree_with_matching()
     ensures { (members : List SpecifierRecord) (candidate : VersionRecord)
         (set : List (Point VersionRecord)) →
@@ -51,8 +59,9 @@ pub fn list_ranges_agree_with_matching()
         holds_at version_cmp set (At candidate) ≡ matches_all members candidate }
 {}
 
-/// The same for a candidate that has neither a local part nor a post-release, and members without `===` and
-/// without a post-release beside `<` or `>`: then no more is asked of the two together.
+/// A list's range, where there is one, holds a candidate with neither a local part nor a post-release
+/// exactly where the list accepts it, if no member is `===`, or `<` or `>` of a post-release. Nothing is
+/// required of a member and the candidate together.
 pub fn ranges_agree_beside_posts()
     ensures { (members : List SpecifierRecord) (candidate : VersionRecord)
         (set : List (Point VersionRecord)) →
@@ -61,9 +70,9 @@ pub fn ranges_agree_beside_posts()
         holds_at version_cmp set (At candidate) ≡ matches_all members candidate }
 {}
 
-/// A list's range tells of each candidate whether the list takes it, asked without the candidate's local
-/// part: where no member is of `===`, has a local part or a post-release beside `<`, or has any but a
-/// final release beside `>`.
+/// A list's range holds a candidate without its local part exactly where the list accepts the candidate, if
+/// no member is `===`, has a local part, is `<` of a post-release, or is `>` of anything but a final
+/// release.
 pub fn ranges_agree_everywhere()
     ensures { (members : List SpecifierRecord) (candidate : VersionRecord)
         (set : List (Point VersionRecord)) →
@@ -73,7 +82,7 @@ pub fn ranges_agree_everywhere()
 {}
 
 /// Among versions of release numbers alone, a specifier's range among releases holds a candidate exactly
-/// where the specifier takes it; but for `===`, which goes by prints, so that `===1.0` refuses `1`.
+/// where the specifier accepts it; but for `===`, which compares prints, so that `===1.0` rejects `1`.
 pub fn release_ranges_agree_with_matching()
     ensures { (specifier : SpecifierRecord) (candidate : VersionRecord) (range : PointTest) →
         IsReleaseVersion specifier.version → IsReleaseVersion candidate → specifier.operator ≢ ExactEqual →
@@ -81,16 +90,18 @@ pub fn release_ranges_agree_with_matching()
         range (At candidate) ≡ matches specifier.operator specifier.version candidate }
 {}
 
-/// The range of an operator's negation is what the operator's own range does not hold, where `IsComplemented`
-/// says so: for `==`, `===` and `!=`, and for `<` and `>=` beside a pre-release or a developmental release.
+/// The range of an operator's negation is the complement of the operator's own range, where
+/// `IsComplemented` holds: for `==`, `===` and `!=`, and for `<` and `>=` with a pre-release or a
+/// developmental release.
 pub fn negation_is_the_complement()
     ensures { (operator other : Operator) (version : VersionRecord) →
         negated operator ≡ Some other → IsComplemented operator version →
         range_by other version ≡ option_map all_but (range_by operator version) }
 {}
 
-/// Elsewhere some points are in neither range: the developmental releases of a version that is neither that
-/// nor a pre-release, beside `<` and `>=`; and what lies just above a version, beside `<=` and `>`.
+/// Some points are in neither the range of an operator nor that of its negation: for `<` and `>=` the first
+/// developmental release of a version that is neither a pre-release nor a developmental release; for `<=`
+/// and `>` what lies just above the version.
 pub fn some_are_in_neither_range()
     ensures before { (version : VersionRecord) →
         IsSaid version → version.local ≡ [] → is_prerelease version ≡ false →
@@ -102,7 +113,7 @@ pub fn some_are_in_neither_range()
         × (range_holds (range_by GreaterThan version) (JustAbove version) ≡ false) }
 {}
 
-/// Among releases the range of an operator's negation is what the operator's own range does not hold, for
+/// Among releases the range of an operator's negation is the complement of the operator's own range, for
 /// each operator that has a negation.
 pub fn release_negation_is_the_complement()
     ensures { (operator other : Operator) (release : List ℕ) →
@@ -110,8 +121,8 @@ pub fn release_negation_is_the_complement()
         release_range_by other release ≡ option_map all_but (release_range_by operator release) }
 {}
 
-/// The ranges among releases of an interval's specifiers hold together just what lies between its bounds. The
-/// numbers of the upper bound are of 64 bits, as those of each version are.
+/// The ranges among releases of an interval's specifiers hold together just what lies between its bounds.
+/// The numbers of the upper bound are of 64 bits, as those of each version are.
 pub fn interval_specifiers_hold_the_interval()
     ensures { (lower upper : Bound VersionRecord) →
         IsReleaseBound lower → IsReleaseBound upper → HasNumbers upper →
@@ -120,8 +131,9 @@ pub fn interval_specifiers_hold_the_interval()
 {}
 
 /// The ranges among releases of the list of intervals hold together just what lies in one of the intervals;
-/// where these lie one behind another, and each gap between two is one version or a minor release, which a
-/// specifier leaves out. There is at least one interval: the empty list takes all versions.
+/// where each interval ends before the next begins, and each gap between two is one version or a minor
+/// release, which a specifier excludes. There is at least one interval: the empty list accepts all
+/// versions.
 pub fn list_of_intervals_holds_their_union()
     ensures { (first : Interval) (later : List Interval) (members : List SpecifierRecord) →
         AreReleaseIntervals (first ∷ later) → HaveNumbers (first ∷ later) →

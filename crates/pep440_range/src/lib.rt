@@ -1,7 +1,10 @@
+#![tactic(auto)]
 //! Specifiers as ranges of versions.
 //!
-//! Contracts see a range by the points that it holds.
-#![tactic(auto)]
+//! The model of a range in contracts is the points that it holds.
+//!
+//! A range is specified by which points it holds, not by a list of bounds: `range_of` is missing, or says
+//! of each point whether it is held. `===` has the range of `==`, since an order knows no prints.
 
 mod conversion;
 pub mod laws;

@@ -1,4 +1,4 @@
-//! Release numbers that are raised by one.
+//! Release numbers raised by one.
 
 ghost use Rattle.std.specs.Prelude.{◌<◌, length, IfOk};
 ghost use Rattle.pep440_text.specs.Releases.{raised, last_raised};
@@ -8,14 +8,14 @@ use crate::RangeError;
 use pep440_text::release;
 use std::alloc::Global;
 
-/// One more, where 64 bits hold it.
+/// Returns the number plus one, or `NumberAtEnd` for `u64::MAX`.
 pub(crate) fn raised(number: u64) -> Result<u64, RangeError>
     ensures { Raises (λ next. next) result (raised number) }
 {
     release::raised(number).ok_or(RangeError::NumberAtEnd)
 }
 
-/// The numbers, the last of them raised. Takes memory for them.
+/// Returns the numbers with the last of them raised by one. Takes memory for them.
 pub(crate) fn last_raised(alloc: Global, numbers: &[u64]) -> Result<Vec<u64>, RangeError>
     requires { 0 < length numbers.now }
     ensures numbers { Raises (λ numbers. numbers.items) result (last_raised numbers.now) }

@@ -1,4 +1,6 @@
-//! The ranges among releases alone: epochs, suffixes and local parts are dropped.
+//! The ranges of specifiers among releases alone: epochs, suffixes and local parts are dropped.
+//!
+//! `star_releases` and `compatible_releases` are two functions because their definitions read better apart.
 
 ghost use Rattle.std.specs.Prelude.{◌≡◌, ◌<◌, ◌≤◌, length};
 ghost use Rattle.pep440_version.specs.Record.{release_record};
@@ -12,10 +14,14 @@ use pep440_version::Version;
 use std::alloc::Global;
 use version_ranges::Ranges;
 
-/// The range of a specifier among releases, as markers compare the versions of an interpreter: of its version
-/// the release alone counts, and the bounds are plain.
+/// Returns the range of a specifier among releases, as markers compare the versions of an interpreter: of
+/// the specifier's version the release alone counts, and the bounds are releases.
 ///
 /// Goes a fixed number of times through the version. Takes memory for the bounds.
+///
+/// # Errors
+/// `NumberAtEnd` where a number of a bound would have to be greater than `u64::MAX`; `Memory` where memory
+/// ran out.
 pub fn release_specifier_to_range(
     alloc: Global,
     specifier: &VersionSpecifier,
@@ -26,7 +32,7 @@ pub fn release_specifier_to_range(
     release_range_by(alloc, specifier.operator(), release)
 }
 
-/// The range of an operator and a release.
+/// Returns the range of an operator and a release.
 fn release_range_by(
     alloc: Global,
     operator: Operator,
@@ -49,7 +55,7 @@ fn release_range_by(
     }
 }
 
-/// The releases that begin with this one.
+/// Returns the range of the releases that begin with this one.
 fn star_releases(alloc: Global, release: Version) -> Result<Ranges<Version>, RangeError>
     requires { release ≡ release_record release.release }
     ensures { Gives result (star_releases release.release) }
@@ -59,7 +65,7 @@ fn star_releases(alloc: Global, release: Version) -> Result<Ranges<Version>, Ran
     sets::up_to(alloc, release, end)
 }
 
-/// The release and those behind it, as far as its numbers but the last are kept.
+/// Returns the range from the release on, as far as all its numbers but the last are kept.
 fn compatible_releases(alloc: Global, release: Version) -> Result<Ranges<Version>, RangeError>
     requires plain { release ≡ release_record release.release }
     requires numbers { 2 ≤ length release.release }

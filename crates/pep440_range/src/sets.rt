@@ -16,42 +16,42 @@ use std::alloc::Global;
 use std::ops::Bound;
 use version_ranges::Ranges;
 
-/// The point at a version.
+/// Returns the set of one version.
 pub(crate) fn point(alloc: Global, version: Version) -> Result<Ranges<Version>, RangeError>
     ensures { Gives result (Some (at_version version)) }
 {
     Ok(Ranges::singleton(alloc, version)?)
 }
 
-/// The version and what comes behind it.
+/// Returns the set from the version on, the version included.
 pub(crate) fn from(alloc: Global, version: Version) -> Result<Ranges<Version>, RangeError>
     ensures { Gives result (Some (from_bound (Included version))) }
 {
     Ok(Ranges::higher_than(alloc, version)?)
 }
 
-/// What comes behind a version.
+/// Returns the set of what is above a version.
 pub(crate) fn above(alloc: Global, version: Version) -> Result<Ranges<Version>, RangeError>
     ensures { Gives result (Some (from_bound (Excluded version))) }
 {
     Ok(Ranges::strictly_higher_than(alloc, version)?)
 }
 
-/// The version and what comes before it.
+/// Returns the set up to the version, the version included.
 pub(crate) fn to(alloc: Global, version: Version) -> Result<Ranges<Version>, RangeError>
     ensures { Gives result (Some (to_bound (Included version))) }
 {
     Ok(Ranges::lower_than(alloc, version)?)
 }
 
-/// What comes before a version.
+/// Returns the set of what is below a version.
 pub(crate) fn below(alloc: Global, version: Version) -> Result<Ranges<Version>, RangeError>
     ensures { Gives result (Some (to_bound (Excluded version))) }
 {
     Ok(Ranges::strictly_lower_than(alloc, version)?)
 }
 
-/// A version and what comes behind it, as far as another version.
+/// Returns the set from a version on, up to and without another version.
 pub(crate) fn up_to(
     alloc: Global,
     first: Version,
@@ -63,7 +63,7 @@ pub(crate) fn up_to(
     Ok(Ranges::from_range_bounds(alloc, bounds)?)
 }
 
-/// What a range does not hold.
+/// Returns the complement of a range; an error is passed on.
 pub(crate) fn all_but(
     alloc: Global,
     range: Result<Ranges<Version>, RangeError>,
@@ -77,7 +77,7 @@ pub(crate) fn all_but(
     }
 }
 
-/// What two ranges share.
+/// Returns the intersection of two ranges.
 pub(crate) fn both(
     alloc: Global,
     range: &Ranges<Version>,

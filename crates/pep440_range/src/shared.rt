@@ -1,4 +1,9 @@
-//! Ranges of lists: what the ranges of all members share.
+//! Ranges of lists: the intersection of the ranges of all members.
+//!
+//! The range of a list is that of its first half intersected with that of its second half, down to single
+//! members. Each level is one pass over all bounds, so `n` members take O(n log n) comparisons, and the
+//! recursion is as deep as the logarithm of `n`. Among all versions or among releases is one private enum,
+//! so that halving is proved once.
 
 ghost use Rattle.std.specs.Prelude.{map};
 ghost use Rattle.pep440_range.specs.Ranges.{Gives, GivesAll, range_of, release_range_of};
@@ -11,10 +16,13 @@ use pep440_version::Version;
 use std::alloc::Global;
 use version_ranges::Ranges;
 
-/// What is in the ranges of all members; `NumberAtEnd` where one of them has no range.
+/// Returns the intersection of the ranges of all members.
 ///
-/// Ranges of halves of the list are cut with each other, so that n members take O(n log n) comparisons of
-/// versions: a list of 40,000 exclusions takes less than a second. Takes memory for the bounds.
+/// The ranges of the two halves of the list are intersected, so that n members take O(n log n) comparisons
+/// of versions: a list of 40,000 exclusions takes less than a second. Takes memory for the bounds.
+///
+/// # Errors
+/// `NumberAtEnd` where one of the members has no range; `Memory` where memory ran out.
 pub fn specifiers_to_range(
     alloc: Global,
     specifiers: &VersionSpecifiers,
@@ -24,9 +32,12 @@ pub fn specifiers_to_range(
     shared_range(alloc, Among::Versions, specifiers.as_slice())
 }
 
-/// What is in the ranges among releases of all members; `NumberAtEnd` where one of them has no range.
+/// Returns the intersection of the ranges among releases of all members.
 ///
-/// Takes as many comparisons and as much memory as `specifiers_to_range`.
+/// Its comparisons and memory are those of `specifiers_to_range`.
+///
+/// # Errors
+/// `NumberAtEnd` where one of the members has no range among releases; `Memory` where memory ran out.
 pub fn release_specifiers_to_ranges(
     alloc: Global,
     specifiers: &VersionSpecifiers,
@@ -36,16 +47,17 @@ pub fn release_specifiers_to_ranges(
     shared_range(alloc, Among::Releases, specifiers.as_slice())
 }
 
-/// Of which versions ranges are made.
+/// The versions of which a specifier's range is made.
 #[derive(Clone, Copy)]
 enum Among {
-    /// Of all, as PEP 440 says.
+    /// All versions, as PEP 440 says.
     Versions,
-    /// Of releases alone.
+    /// Releases alone.
     Releases,
 }
 
-/// What the ranges of these members share: that of each half of them, cut with that of the other half.
+/// Returns the intersection of the ranges of these members: that of the one half with that of the other
+/// half.
 fn shared_range(
     alloc: Global,
     among: Among,

@@ -1,4 +1,4 @@
-//! The laws of the crates below.
+//! The laws of versions, specifiers, lists and ranges, re-exported from the crates below.
 
 pub use pep440_key::laws::keys_compare_as_versions;
 pub use pep440_operator::laws::operator_text_is_read;

@@ -1,7 +1,7 @@
 #![tactic(auto)]
 //! Versions and version specifiers of Python packages, as PEP 440 has them.
 //!
-//! A specifier list takes a version or not:
+//! A list of specifiers accepts a version, or rejects it:
 //!
 //! ```text
 //! let version = Version::from_str(alloc, "1.19")?;
@@ -9,7 +9,7 @@
 //! let is_taken = wanted.contains(alloc, &version)?;
 //! ```
 //!
-//! The crates below hold the code; this one passes on what they offer.
+//! This crate re-exports what the crates below it offer.
 
 pub mod laws;
 

@@ -34,25 +34,25 @@ is_local_bound Unbounded = false
 abbrev pub IsReleaseVersion : VersionRecord → Type 0
 IsReleaseVersion version = version ≡ release_record version.release
 
--- a bound of such a version, or none
+-- a bound of a release version, or no bound
 abbrev pub IsReleaseBound : Bound VersionRecord → Type 0
 IsReleaseBound (Included version) = IsReleaseVersion version
 IsReleaseBound (Excluded version) = IsReleaseVersion version
 IsReleaseBound Unbounded = Unit {0}
 
--- what a lower bound says: `>=` its version, or `>`
+-- the specifier of a lower bound: `>=` its version, or `>`
 abbrev pub lower_specifier : Bound VersionRecord → Option SpecifierRecord
 lower_specifier (Included version) = Some (record { operator = GreaterThanEqual; version = version })
 lower_specifier (Excluded version) = Some (record { operator = GreaterThan; version = version })
 lower_specifier Unbounded = None
 
--- what an upper bound says: `<=` its version, or `<`
+-- the specifier of an upper bound: `<=` its version, or `<`
 abbrev pub upper_specifier : Bound VersionRecord → Option SpecifierRecord
 upper_specifier (Included version) = Some (record { operator = LessThanEqual; version = version })
 upper_specifier (Excluded version) = Some (record { operator = LessThan; version = version })
 upper_specifier Unbounded = None
 
--- the release numbers `a.(b+1)` behind exactly two, `a.b`
+-- the release numbers `a.(b+1)` after exactly two, `a.b`
 abbrev pub next_minor : List ℕ → Option (List ℕ)
 next_minor (major ∷ minor ∷ []) = Some (major ∷ (minor + 1) ∷ [])
 next_minor numbers = None

@@ -1,4 +1,4 @@
--- Which versions may stand beside which operator (PEP 440, "Version specifiers").
+-- Which operators allow which versions (PEP 440, "Version specifiers").
 use Rattle.std.specs.Prelude.{◌≡◌, ℕ, ◌≤◌, ◌&&◌, not, true, false, nat_lt, if◌then◌else◌, List, [], length}
 use Rattle.std.specs.Prelude.{Option, Some, None, Result, Ok, Err}
 use Rattle.pep440_version.specs.Record.{VersionRecord, PatternRecord, epoch_record, release_record}
@@ -14,11 +14,11 @@ use Rattle.pep440_specifier.specs.declared.build_error.VersionSpecifierBuildErro
 use Rattle.pep440_operator.specs.Operators.{is_star, takes_local, is_tilde, starred}
 use Rattle.pep440_specifier.specs.Matching.{SpecifierRecord}
 
--- a version of epoch and release alone, as it stands before a star
+-- a version of epoch and release alone, as the one before a star
 abbrev pub IsStarVersion : VersionRecord → Type 0
 IsStarVersion version = version ≡ epoch_record version.epoch version.release
 
--- what holds of an operator and the version beside it
+-- a specifier whose operator allows its version
 pub record IsBuilt (specifier : SpecifierRecord) : Type 0 where
   pub local : takes_local specifier.operator ≡ false → specifier.version.local ≡ []
   pub numbers : is_tilde specifier.operator ≡ true → 2 ≤ length specifier.version.release
@@ -42,6 +42,6 @@ built_of_pattern operator pattern =
     if pattern.wildcard then built_starred operator (starred operator) pattern.version
     else built operator pattern.version
 
--- `==` and these release numbers, with a star behind them
+-- `==` and these release numbers, with a star after them
 abbrev pub equal_star : List ℕ → SpecifierRecord
 equal_star numbers = record { operator = EqualStar; version = release_record numbers }

@@ -1,4 +1,4 @@
--- Which versions a specifier takes: one equation for each operator (PEP 440, "Version specifiers").
+-- Which versions a specifier accepts: one equation for each operator (PEP 440, "Version specifiers").
 use Rattle.std.specs.Prelude.{ℕ, ◌-◌, ◌==◌, ◌&&◌, not, Bool, true, List, [], ◌∷◌, length, take}
 use Rattle.std.specs.Option.{is_some}
 use Rattle.std.specs.declared.cmp.Ordering.{Ordering}
@@ -15,7 +15,7 @@ use Rattle.pep440_operator.specs.declared.operator.Operator.TheVariants.{NotEqua
 use Rattle.pep440_operator.specs.declared.operator.Operator.TheVariants.{LessThan, LessThanEqual}
 use Rattle.pep440_operator.specs.declared.operator.Operator.TheVariants.{GreaterThan, GreaterThanEqual}
 
--- an operator and the version beside it
+-- an operator and the version that it compares with
 pub record SpecifierRecord : Type 0 where
   pub operator : Operator
   pub version : VersionRecord
@@ -25,11 +25,11 @@ abbrev pub seen_beside : List Segment → VersionRecord → VersionRecord
 seen_beside [] candidate = without_local candidate
 seen_beside (segment ∷ segments) candidate = candidate
 
--- where a candidate stands to the specifier's version
+-- the order of a candidate and the specifier's version
 abbrev pub candidate_cmp : VersionRecord → VersionRecord → Ordering
 candidate_cmp version candidate = version_cmp (seen_beside version.local candidate) version
 
--- whether the numbers, with zeros behind them, begin with the given ones (PEP 440, "Version matching")
+-- whether the numbers, padded with zeros, begin with the given ones (PEP 440, "Version matching")
 abbrev pub begins_padded : List ℕ → List ℕ → Bool
 begins_padded [] numbers = true
 begins_padded (wanted ∷ others) [] = wanted == 0 && begins_padded others []
@@ -49,7 +49,7 @@ same_release version candidate =
     version.epoch == candidate.epoch
     && is_eq (slice_cmp nat_cmp (stripped version.release) (stripped candidate.release))
 
--- whether the specifier of an operator and a version takes a candidate
+-- whether the specifier of an operator and a version accepts a candidate
 abbrev pub matches : Operator → VersionRecord → VersionRecord → Bool
 matches Equal version candidate = is_eq (candidate_cmp version candidate)
 matches EqualStar version candidate = has_front version.epoch version.release candidate
@@ -68,6 +68,6 @@ matches GreaterThan version candidate =
     && not (same_release version candidate && (is_some candidate.post && not (is_some version.post)))
 matches GreaterThanEqual version candidate = is_ge (candidate_cmp version candidate)
 
--- whether a specifier takes a candidate
+-- whether a specifier accepts a candidate
 abbrev pub takes : VersionRecord → SpecifierRecord → Bool
 takes candidate specifier = matches specifier.operator specifier.version candidate

@@ -1,4 +1,4 @@
--- What the errors of specifiers print.
+-- The prints of the errors of specifiers.
 use Rattle.std.specs.Prelude.{ℕ, List, ◌++◌, codes}
 use Rattle.std.specs.String.{string_bytes}
 use Rattle.pep440_version.specs.Print.{version_text}
@@ -23,7 +23,7 @@ build_error_text (builds.OperatorWithStar operator) =
 build_error_text builds.CompatibleRelease =
     codes "The ~= operator requires at least two segments in the release version"
 
--- the print of why a text is no specifier
+-- the print of why a text is not a specifier
 abbrev pub specifier_error_text : VersionSpecifierParseError → List ℕ
 specifier_error_text errors.Memory = codes "out of memory"
 specifier_error_text errors.MissingOperator = codes "Unexpected end of version specifier, expected operator"

@@ -1,5 +1,5 @@
--- What there is to read of the text of a specifier, character by character from its front on: the specifier,
--- or its first fault with the texts in it.
+-- The reading of the text of a specifier, character by character from its front on: the specifier, or its
+-- first fault with the texts in it.
 use Rattle.std.specs.Prelude.{◌≡◌, ◌≢◌, ℕ, ◌==◌, Bool, if◌then◌else◌, List, [], ◌∷◌, take, drop, Option}
 use Rattle.std.specs.Prelude.{Some, None, Result, Ok, Err, encode_utf8_all}
 use Rattle.std.specs.Char.{is_whitespace}
@@ -33,7 +33,7 @@ front_in test cs =
 
 -- ---- the whole
 
--- why a text is no specifier; where its operator or its version is none, why that is
+-- why a text is not a specifier; where its operator or its version is invalid, why that is
 pub data SpecifierFault : Type 0 where
   MissingOperator : SpecifierFault
   InvalidOperator : List ℕ → SpecifierFault
@@ -55,7 +55,7 @@ abbrev pub built_before : List ℕ → Result SpecifierRecord VersionSpecifierBu
 built_before left (Ok specifier) = ended (skip_leading_whitespace left) specifier
 built_before left (Err error) = Err (InvalidSpecifier error)
 
--- what a pattern's text says beside an operator
+-- the reading of an operator and a pattern's text
 abbrev pub beside_pattern : Operator → List ℕ → Result PatternRecord VersionFault → Reading
 beside_pattern operator left (Ok pattern) = built_before left (built_of_pattern operator pattern)
 beside_pattern operator left (Err fault) = Err (InvalidVersion fault)
@@ -86,7 +86,7 @@ specifier_of text = result_ok (specifier_reading text)
 
 -- ---- errors
 
--- the fault that an error tells; want of memory tells none
+-- the fault that an error reports; none for lack of memory
 abbrev pub told_specifier : VersionSpecifierParseError → Option SpecifierFault
 told_specifier errors.Memory = None
 told_specifier errors.MissingOperator = Some MissingOperator
@@ -96,11 +96,11 @@ told_specifier (errors.InvalidVersion error) = option_map InvalidVersion (told_p
 told_specifier (errors.InvalidSpecifier error) = Some (InvalidSpecifier error)
 told_specifier (errors.InvalidTrailing text) = Some (InvalidTrailing (string_bytes text))
 
--- an error that tells no fault is want of memory itself, which is never inside another error
+-- an error that reports no fault is lack of memory itself, which is never inside another error
 abbrev pub IsPlain : VersionSpecifierParseError → Type 0
 IsPlain error = told_specifier error ≡ None → error ≡ errors.Memory
 
--- memory is taken for what is read: not before an operator, a version and its first number are there
+-- memory is taken only once an operator and a version's first number are read
 abbrev pub HasGrown : Reading → Type 0
 HasGrown reading =
     (reading ≢ Err MissingOperator) × (reading ≢ Err MissingVersion)

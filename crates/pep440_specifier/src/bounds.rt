@@ -1,4 +1,8 @@
-//! Specifiers of bounds, and of intervals between two of them.
+//! Specifiers of bounds, and of the intervals between two bounds.
+//!
+//! Bounds are compared in the order of versions where one specifier stands for two of them: `3.8.0` ends
+//! the interval of `3.7.*` as `3.8` does. The lower bound's spelling is kept. `is_next_minor` is public for
+//! the crate of lists.
 
 ghost use Rattle.std.specs.Prelude.{◌≡◌, ◌+◌, ◌++◌, ◌↔◌, [], ◌∷◌, false, IsTrue, IfOk, IfErr, OnOk, Some};
 ghost use Rattle.std.specs.Prelude.{Err, is_some, option_to_list};
@@ -21,7 +25,7 @@ use std::ops::Bound;
 /// Why a bound has no specifier.
 #[derive(Clone, Copy, Debug, PartialEq, Eq)]
 pub enum BoundError {
-    /// The bound's version has a local part, which no version beside `<`, `<=`, `>` and `>=` has.
+    /// The bound's version has a local part, which PEP 440 does not allow with `<`, `<=`, `>` and `>=`.
     LocalInBound,
     /// Memory ran out.
     Memory,
@@ -52,9 +56,13 @@ impl fmt::Display for BoundError {
 impl Error for BoundError {}
 
 impl VersionSpecifier {
-    /// `>=` an included lower bound, `>` an excluded one, and none where there is no bound.
+    /// Returns the specifier of a lower bound: `>=` for an included one, `>` for an excluded one, and none
+    /// where there is no bound.
     ///
     /// Takes memory for a copy of the version; a bound with a local part is refused first.
+    ///
+    /// # Errors
+    /// `LocalInBound` where the bound's version has a local part; `Memory` where memory ran out.
     pub fn from_lower_bound(
         alloc: Global,
         bound: Bound<&Version>,
@@ -71,9 +79,13 @@ impl VersionSpecifier {
         Ok(lower_specifier(alloc, bound)?)
     }
 
-    /// `<=` an included upper bound, `<` an excluded one, and none where there is no bound.
+    /// Returns the specifier of an upper bound: `<=` for an included one, `<` for an excluded one, and none
+    /// where there is no bound.
     ///
     /// Takes memory for a copy of the version; a bound with a local part is refused first.
+    ///
+    /// # Errors
+    /// `LocalInBound` where the bound's version has a local part; `Memory` where memory ran out.
     pub fn from_upper_bound(
         alloc: Global,
         bound: Bound<&Version>,
@@ -90,8 +102,9 @@ impl VersionSpecifier {
         Ok(upper_specifier(alloc, bound)?)
     }
 
-    /// The specifiers of the interval between two bounds, whose versions have epoch 0 and a release alone:
-    /// `==` of a point, `==a.b.*` from `a.b` to below `a.(b+1)`, and else one of each bound that there is.
+    /// Returns the specifiers of the interval between two bounds, whose versions have epoch 0 and a release
+    /// alone: `==` for a single version, `==a.b.*` from `a.b` to below `a.(b+1)`, and else one for each
+    /// bound that there is.
     ///
     /// Takes memory for copies of the versions and for the list.
     pub fn from_release_only_bounds(
@@ -116,7 +129,7 @@ impl VersionSpecifier {
     }
 }
 
-/// Whether the release has exactly two numbers, `a.b`, and the other version equals `a.(b+1)`.
+/// Returns whether the release has exactly two numbers, `a.b`, and the other version equals `a.(b+1)`.
 ///
 /// The other version has epoch 0 and a release alone. Takes no memory; linear in the other release.
 #[tactic(auto, using(crate::proofs::NextMinor::next_of_two))]
@@ -131,7 +144,7 @@ pub fn is_next_minor(version: &Version, next: &Version) -> bool
     }
 }
 
-/// Whether a release is `a.(b+1)`, up to zeros at the end.
+/// Returns whether a release is `a.(b+1)`, up to zeros at the end.
 #[tactic(auto, using(crate::proofs::NextMinor::steps))]
 fn is_step(major: u64, minor: u64, release: &[u64]) -> bool
     ensures { result ≡ is_eq (padded_cmp (major ∷ (minor + 1) ∷ []) release.now) }
@@ -174,7 +187,7 @@ fn is_local_bound(bound: Bound<&Version>) -> bool
     }
 }
 
-/// The specifier of a lower bound with no local part.
+/// Returns the specifier of a lower bound with no local part.
 fn lower_specifier(
     alloc: Global,
     bound: Bound<&Version>,
@@ -194,7 +207,7 @@ fn lower_specifier(
     })
 }
 
-/// The specifier of an upper bound with no local part.
+/// Returns the specifier of an upper bound with no local part.
 fn upper_specifier(
     alloc: Global,
     bound: Bound<&Version>,
@@ -214,7 +227,7 @@ fn upper_specifier(
     })
 }
 
-/// The one specifier that says both bounds, where there is one.
+/// Returns the one specifier that expresses both bounds, where there is one.
 fn single_specifier(
     alloc: Global,
     lower: Bound<&Version>,

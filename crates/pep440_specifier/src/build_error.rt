@@ -1,4 +1,6 @@
 //! Why an operator and a version make no specifier.
+//!
+//! `Memory` is a variant as in every error type, although building allocates nothing.
 
 ghost use Rattle.std.specs.Prelude.{Some};
 ghost use Rattle.pep440_specifier.specs.SpecifierErrorPrints.{build_error_text};
@@ -11,18 +13,18 @@ use std::fmt;
 /// Why an operator and a version make no specifier.
 #[derive(Debug, PartialEq, Eq, Drop)]
 pub enum VersionSpecifierBuildError {
-    /// Memory ran out. Building takes none; whoever reads the parts before may pass this on.
+    /// Memory ran out. Building takes none; a caller that first reads the parts may report this.
     Memory,
-    /// Beside this operator a version has no local part.
+    /// This operator does not allow a local part in its version.
     OperatorLocalCombo {
         operator: Operator,
         version: Version,
     },
-    /// A star stands behind the version of an operator other than `==` and `!=`.
+    /// `.*` follows the version of an operator other than `==` and `!=`.
     OperatorWithStar {
         operator: Operator,
     },
-    /// The version beside `~=` has fewer than two release numbers.
+    /// The version of `~=` has fewer than two release numbers.
     CompatibleRelease,
 }
 
@@ -34,7 +36,8 @@ impl fmt::Display for VersionSpecifierBuildError {
             VersionSpecifierBuildError::Memory => write!(f, "out of memory"),
             VersionSpecifierBuildError::OperatorLocalCombo { operator, version } => write!(
                 f,
-                "Operator {operator} is incompatible with versions containing non-empty local segments (`{version}`)"
+                "Operator {operator} is incompatible with versions containing non-empty \
+                 local segments (`{version}`)"
             ),
             VersionSpecifierBuildError::OperatorWithStar { operator } => write!(
                 f,

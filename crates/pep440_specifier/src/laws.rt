@@ -1,5 +1,4 @@
-//! Laws over the definitions that the contracts cite. The functions do nothing: each one's contract is its
-//! law.
+//! Laws of specifiers. The functions do nothing: each one's contract is its law.
 
 ghost use Rattle.std.specs.Prelude.{◌≡◌, ◌↔◌, ℕ, not, true, false, List, [], ◌∷◌, Some, None};
 ghost use Rattle.pep440_version.specs.Record.{VersionRecord, release_record};
@@ -13,7 +12,7 @@ ghost use Rattle.pep440_specifier.specs.SpecifierText.{IsSpecifierText};
 
 use pep440_text::laws::pattern_text_is_read;
 
-/// `!=` takes exactly what `==` refuses, with a star and without (PEP 440, "Version exclusion").
+/// `!=` accepts exactly what `==` rejects, with a star and without (PEP 440, "Version exclusion").
 pub fn exclusion_is_the_rest()
     ensures plain { (version candidate : VersionRecord)
         → matches NotEqual version candidate ≡ not (matches Equal version candidate) }
@@ -37,8 +36,8 @@ pub fn text_has_one_specifier()
     pattern_text_is_read();
 }
 
-/// What a text says as a specifier may be built: its version goes with its operator, and marks no end of a
-/// range.
+/// A specifier that is read from a text is valid: its operator allows its version, and the version has no
+/// mark as the end of a range.
 pub fn a_read_specifier_is_built()
     ensures built { (text : List ℕ) (specifier : SpecifierRecord)
         → specifier_of text ≡ Some specifier → IsBuilt specifier }
@@ -48,8 +47,8 @@ pub fn a_read_specifier_is_built()
     specifier_text_is_read();
 }
 
-/// Equal specifiers may take different versions where a star stands: `==1.*` and `==1.0.*` are equal, since
-/// `1` and `1.0` are one version, and of the two `==1.*` alone takes `1.1` (PEP 440, "Version matching").
+/// Equal specifiers with a star may accept different versions: `==1.*` and `==1.0.*` are equal, since `1`
+/// and `1.0` are one version, but only `==1.*` accepts `1.1` (PEP 440, "Version matching").
 #[tactic(auto, unfolding(crate::specs::SpecifierOrder::specifier_key, pep440_version::specs::Order::key_of))]
 pub fn equal_stars_may_differ()
     ensures built { IsBuilt (equal_star (1 ∷ [])) × IsBuilt (equal_star (1 ∷ 0 ∷ [])) }

@@ -1,6 +1,6 @@
-//! Version specifiers, as PEP 440 has them: an operator, a version, and the versions that they take.
+//! Version specifiers, as PEP 440 has them: an operator, a version, and the versions that they accept.
 //!
-//! Contracts see a `VersionSpecifier` as a `SpecifierRecord`.
+//! The model of a `VersionSpecifier` in contracts is a `SpecifierRecord`.
 #![tactic(auto)]
 
 mod bounds;

@@ -1,4 +1,7 @@
-//! Which versions a specifier takes.
+//! Which versions a specifier accepts.
+//!
+//! The candidate's local part is dropped first where the specifier has none, so `>1.0a1` accepts `1.0+x`.
+//! `===` compares prints and not the texts as written, so `===01.00`, which prints `===1.0`, accepts `1.0`.
 
 ghost use Rattle.std.specs.Prelude.{◌≡◌, ◌≢◌, IfOk, IsOk};
 ghost use Rattle.pep440_specifier.specs.Matching.{candidate_cmp, begins_padded, has_front, same_release};
@@ -10,10 +13,10 @@ use std::alloc::{AllocError, Global};
 use std::cmp::Ordering;
 
 impl VersionSpecifier {
-    /// Whether it takes a version (PEP 440, "Version specifiers").
+    /// Returns whether the specifier accepts a version (PEP 440, "Version specifiers").
     ///
     /// Goes a fixed number of times through both versions. Takes memory for `===` alone, which compares
-    /// prints.
+    /// prints, and fails only where memory for these ran out.
     pub fn contains(&self, alloc: Global, version: &Version) -> Result<bool, AllocError>
         ensures matching { IfOk result (λ taken.
             taken ≡ matches self.now.operator self.now.version version.now) }
@@ -35,7 +38,8 @@ impl VersionSpecifier {
     }
 }
 
-/// Where a candidate stands to a specifier's version, whose lack of a local part hides the candidate's.
+/// Compares a candidate with a specifier's version; the candidate's local part is ignored where the version
+/// has none.
 fn compare(version: &Version, candidate: &Version) -> Ordering
     ensures { result ≡ candidate_cmp version.now candidate.now }
 {
@@ -46,7 +50,7 @@ fn compare(version: &Version, candidate: &Version) -> Ordering
     }
 }
 
-/// Whether the prints are equal, byte by byte (PEP 440, "Arbitrary equality").
+/// Returns whether the prints are equal, byte by byte (PEP 440, "Arbitrary equality").
 fn prints_alike(alloc: Global, version: &Version, candidate: &Version) -> Result<bool, AllocError>
     ensures { IfOk result (λ alike. alike ≡ matches Operator.ExactEqual version.now candidate.now) }
 {
@@ -55,7 +59,7 @@ fn prints_alike(alloc: Global, version: &Version, candidate: &Version) -> Result
     Ok(candidate.as_str() == version.as_str())
 }
 
-/// Whether the numbers, with zeros behind them, begin with the wanted ones.
+/// Returns whether the numbers, padded with zeros, begin with the wanted ones.
 fn begins_padded(wanted: &[u64], numbers: &[u64]) -> bool
     ensures { result ≡ begins_padded wanted.now numbers.now }
 {
@@ -78,14 +82,14 @@ fn begins_padded(wanted: &[u64], numbers: &[u64]) -> bool
     true
 }
 
-/// Whether a candidate has the epoch and its release begins with these numbers.
+/// Returns whether a candidate has the epoch and its release begins with these numbers.
 fn has_front(epoch: u64, release: &[u64], candidate: &Version) -> bool
     ensures { result ≡ has_front epoch release.now candidate.now }
 {
     candidate.epoch() == epoch && begins_padded(release, candidate.release())
 }
 
-/// Whether a candidate is not below the version and shares all its release numbers but the last.
+/// Returns whether a candidate is not below the version and shares all its release numbers but the last.
 fn is_compatible(version: &Version, candidate: &Version) -> bool
     ensures { result ≡ matches Operator.TildeEqual version.now candidate.now }
 {
@@ -94,14 +98,14 @@ fn is_compatible(version: &Version, candidate: &Version) -> bool
     has_front(version.epoch(), front, candidate) && compare(version, candidate).is_ge()
 }
 
-/// Whether epoch and release are the same, up to zeros at the end.
+/// Returns whether epoch and release are equal, up to zeros at the end.
 fn same_release(version: &Version, candidate: &Version) -> bool
     ensures { result ≡ same_release version.now candidate.now }
 {
     version.epoch() == candidate.epoch() && version.cmp_release(candidate).is_eq()
 }
 
-/// Whether a candidate is below the version, and not a pre-release of it unless the version is one.
+/// Returns whether a candidate is below the version, and not a pre-release of it unless the version is one.
 fn is_less(version: &Version, candidate: &Version) -> bool
     ensures { result ≡ matches Operator.LessThan version.now candidate.now }
 {
@@ -111,7 +115,8 @@ fn is_less(version: &Version, candidate: &Version) -> bool
     compare(version, candidate).is_lt() && !hidden
 }
 
-/// Whether a candidate is above the version, and not a post-release of it unless the version is one.
+/// Returns whether a candidate is above the version, and not a post-release of it unless the version is
+/// one.
 fn is_greater(version: &Version, candidate: &Version) -> bool
     ensures { result ≡ matches Operator.GreaterThan version.now candidate.now }
 {

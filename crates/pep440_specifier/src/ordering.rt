@@ -1,4 +1,7 @@
 //! The order of specifiers, and their hash.
+//!
+//! Equal specifiers may accept different versions: `==1.*` equals `==1.0.*`. A cache keyed by specifiers
+//! has to know this (law `equal_stars_may_differ`).
 
 ghost use Rattle.std.specs.Prelude.{◌≡◌, refl};
 ghost use Rattle.std.specs.Ordering.{as_partial_cmp};

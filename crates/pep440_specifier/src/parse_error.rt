@@ -1,4 +1,4 @@
-//! Why a text is no specifier.
+//! Why a text is not a specifier.
 
 ghost use Rattle.std.specs.Prelude.{Some};
 ghost use Rattle.pep440_specifier.specs.SpecifierErrorPrints.{specifier_error_text};
@@ -8,22 +8,22 @@ use pep440_version::VersionPatternParseError;
 use std::error::Error;
 use std::fmt;
 
-/// Why a text is no specifier.
+/// Why a text is not a specifier.
 #[derive(Debug, PartialEq, Eq, Drop)]
 pub enum VersionSpecifierParseError {
     /// Memory ran out while reading.
     Memory,
     /// The text doesn't begin with an operator.
     MissingOperator,
-    /// The operator is none that is known.
+    /// The operator is unknown.
     InvalidOperator(OperatorParseError),
     /// No version follows the operator.
     MissingVersion,
-    /// What follows the operator is no version.
+    /// What follows the operator is not a version.
     InvalidVersion(VersionPatternParseError),
-    /// Operator and version don't go together.
+    /// The operator does not allow this version.
     InvalidSpecifier(VersionSpecifierBuildError),
-    /// Something stands behind the version and white space.
+    /// Something other than white space follows the version.
     InvalidTrailing(String),
 }
 

@@ -1,4 +1,4 @@
-//! The reading of specifiers.
+//! Reading the text of a specifier.
 
 ghost use Rattle.std.specs.Prelude.{◌≡◌, false, IfErr, Err};
 ghost use Rattle.std.specs.Char.{is_whitespace};
@@ -18,21 +18,21 @@ use crate::{Operator, OperatorParseError, VersionSpecifier, VersionSpecifierPars
 use pep440_version::{VersionPattern, VersionPatternParseError};
 use std::alloc::Global;
 
-/// Whether no operator has this character.
+/// Returns whether no operator has this character.
 fn ends_operator(c: char) -> bool
     ensures { result ≡ ends_operator c }
 {
     !matches!(c, '=' | '<' | '>' | '~' | '!')
 }
 
-/// What follows the white space at the front.
+/// Returns the text without the white space at its front.
 fn skip_white(text: &str) -> &str
     ensures { chars result.now ≡ skip_leading_whitespace (chars text.now) }
 {
     text.trim_start()
 }
 
-/// The text before a place and what follows, if the place is not the start.
+/// Splits a text at a place; `None` where the place is the start.
 fn cut_at(text: &str, end: usize) -> Option<(&str, &str)>
     requires { IsCharBoundary text.now end }
     ensures { option_map (λ parts. (parts.0.now, chars parts.1.now)) result ≡ cut_at text.now end }
@@ -43,7 +43,7 @@ fn cut_at(text: &str, end: usize) -> Option<(&str, &str)>
     Some(text.split_at(end))
 }
 
-/// The characters of an operator at the front, and what follows them.
+/// Splits off the operator's characters at the front; `None` where there are none.
 fn split_operator(text: &str) -> Option<(&str, &str)>
     ensures { option_map (λ parts. (parts.0.now, chars parts.1.now)) result
         ≡ front_in ends_operator (chars text.now) }
@@ -54,7 +54,7 @@ fn split_operator(text: &str) -> Option<(&str, &str)>
     }
 }
 
-/// The text before the first white space, and that white space with what follows it.
+/// Splits a text before its first white space; `None` where it begins with white space or is empty.
 fn split_word(text: &str) -> Option<(&str, &str)>
     ensures { option_map (λ parts. (parts.0.now, chars parts.1.now)) result
         ≡ front_in is_whitespace (chars text.now) }
@@ -65,7 +65,7 @@ fn split_word(text: &str) -> Option<(&str, &str)>
     }
 }
 
-/// The error of a text that stands behind the whole.
+/// Returns the error for text that follows the whole specifier.
 fn trailing(alloc: Global, text: &str) -> VersionSpecifierParseError
     ensures told { Tells {Y = SpecifierRecord} (told_specifier result) (Err (InvalidTrailing text.now)) }
     ensures plain { IsPlain result }
@@ -76,7 +76,7 @@ fn trailing(alloc: Global, text: &str) -> VersionSpecifierParseError
     }
 }
 
-/// The specifier of an operator and a pattern, behind which white space alone may be left.
+/// Builds the specifier of an operator and a pattern, after which only white space may be left.
 fn build(
     alloc: Global,
     operator: Operator,
@@ -99,7 +99,7 @@ fn build(
     Ok(specifier)
 }
 
-/// What stands behind an operator: a pattern, with white space around it.
+/// Reads what follows an operator: a pattern, with white space around it.
 #[tactic(auto, unfolding(crate::specs::SpecifierReading::behind_operator))]
 fn read_behind_operator(
     alloc: Global,
@@ -122,7 +122,7 @@ fn read_behind_operator(
     }
 }
 
-/// The specifier that a text is, or its first fault.
+/// Returns the specifier that a text is, or its first fault.
 #[tactic(auto, unfolding(crate::specs::SpecifierReading::specifier_reading))]
 pub(crate) fn read_specifier(
     alloc: Global,

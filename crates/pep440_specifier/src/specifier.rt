@@ -1,4 +1,4 @@
-//! Specifiers.
+//! Version specifiers: an operator and a version.
 
 ghost use Rattle.std.specs.Prelude.{◌≡◌, [], true, IfOk, IfErr, Some};
 ghost use Rattle.pep440_version.specs.Changes.{is_prerelease};
@@ -18,7 +18,7 @@ use std::alloc::{AllocError, Global};
 use std::fmt;
 use std::marker::Model;
 
-/// An operator and the version beside it, as `>=1.2` (PEP 440, "Version specifiers").
+/// An operator and the version that it compares with, as `>=1.2` (PEP 440, "Version specifiers").
 #[derive(Drop)]
 pub struct VersionSpecifier {
     operator: Operator,
@@ -37,8 +37,12 @@ impl Model for VersionSpecifier {
 }
 
 impl VersionSpecifier {
-    /// The specifier of an operator and a pattern. A star is allowed beside `==` and `!=` alone, a local part
-    /// beside `==`, `!=` and `===` alone, and `~=` needs two release numbers.
+    /// Returns the specifier of an operator and a pattern. A star is allowed with `==` and `!=` alone, a
+    /// local part with `==`, `!=` and `===` alone, and `~=` needs two release numbers.
+    ///
+    /// # Errors
+    /// `OperatorWithStar`, `OperatorLocalCombo` or `CompatibleRelease` where the operator does not allow
+    /// the pattern.
     pub fn from_pattern(
         operator: Operator,
         pattern: VersionPattern,
@@ -58,8 +62,12 @@ impl VersionSpecifier {
         }
     }
 
-    /// The specifier of an operator and a version. A local part is allowed beside `==`, `!=` and `===` alone,
-    /// and `~=` needs two release numbers. A star's version has an epoch and a release alone.
+    /// Returns the specifier of an operator and a version. A local part is allowed with `==`, `!=` and
+    /// `===` alone, and `~=` needs two release numbers. An operator with a star needs a version of epoch
+    /// and release alone.
+    ///
+    /// # Errors
+    /// `OperatorLocalCombo` or `CompatibleRelease` where the operator does not allow the version.
     pub fn from_version(
         operator: Operator,
         version: Version,
@@ -76,7 +84,7 @@ impl VersionSpecifier {
         Ok(VersionSpecifier { operator, version })
     }
 
-    /// `==` and this version.
+    /// Returns `==` this version.
     pub fn equals_version(version: Version) -> VersionSpecifier
         ensures { result ≡ record { operator = Operator.Equal; version = version } }
     {
@@ -86,7 +94,8 @@ impl VersionSpecifier {
         }
     }
 
-    /// `==` and every version whose release begins with this one's, which has an epoch and a release alone.
+    /// Returns `==` with a star: it accepts every version whose release begins with that of this version,
+    /// which has an epoch and a release alone.
     pub fn equals_star_version(version: Version) -> VersionSpecifier
         requires { IsStarVersion version }
         ensures { result ≡ record { operator = Operator.EqualStar; version = version } }
@@ -97,7 +106,8 @@ impl VersionSpecifier {
         }
     }
 
-    /// `!=` and every version whose release begins with this one's, which has an epoch and a release alone.
+    /// Returns `!=` with a star: it rejects every version whose release begins with that of this version,
+    /// which has an epoch and a release alone.
     pub fn not_equals_star_version(version: Version) -> VersionSpecifier
         requires { IsStarVersion version }
         ensures { result ≡ record { operator = Operator.NotEqualStar; version = version } }
@@ -108,7 +118,7 @@ impl VersionSpecifier {
         }
     }
 
-    /// `!=` and this version.
+    /// Returns `!=` this version.
     pub fn not_equals_version(version: Version) -> VersionSpecifier
         ensures { result ≡ record { operator = Operator.NotEqual; version = version } }
     {
@@ -118,7 +128,7 @@ impl VersionSpecifier {
         }
     }
 
-    /// `>=` and this version, which has no local part.
+    /// Returns `>=` this version, which has no local part.
     pub fn greater_than_equal_version(version: Version) -> VersionSpecifier
         requires { version.local ≡ [] }
         ensures { result ≡ record { operator = Operator.GreaterThanEqual; version = version } }
@@ -129,7 +139,7 @@ impl VersionSpecifier {
         }
     }
 
-    /// `>` and this version, which has no local part.
+    /// Returns `>` this version, which has no local part.
     pub fn greater_than_version(version: Version) -> VersionSpecifier
         requires { version.local ≡ [] }
         ensures { result ≡ record { operator = Operator.GreaterThan; version = version } }
@@ -140,7 +150,7 @@ impl VersionSpecifier {
         }
     }
 
-    /// `<=` and this version, which has no local part.
+    /// Returns `<=` this version, which has no local part.
     pub fn less_than_equal_version(version: Version) -> VersionSpecifier
         requires { version.local ≡ [] }
         ensures { result ≡ record { operator = Operator.LessThanEqual; version = version } }
@@ -151,7 +161,7 @@ impl VersionSpecifier {
         }
     }
 
-    /// `<` and this version, which has no local part.
+    /// Returns `<` this version, which has no local part.
     pub fn less_than_version(version: Version) -> VersionSpecifier
         requires { version.local ≡ [] }
         ensures { result ≡ record { operator = Operator.LessThan; version = version } }
@@ -162,11 +172,14 @@ impl VersionSpecifier {
         }
     }
 
-    /// Reads an operator and a version behind it, as `>= 1.2` or `==1.2.*`, with white space around each.
+    /// Reads an operator and the version after it, as `>= 1.2` or `==1.2.*`, with white space around each.
     ///
     /// Linear in the text; takes memory for the version, and for the texts of an error, and none before an
-    /// operator and a first number were read. The error names the first fault from the left, and is `Memory`
-    /// itself where memory runs out.
+    /// operator and a first number were read.
+    ///
+    /// # Errors
+    /// The first fault from the left, where the text is not a specifier; `Memory` itself, never inside
+    /// another error, where memory ran out.
     pub fn from_str(
         alloc: Global,
         text: &str,
@@ -179,14 +192,14 @@ impl VersionSpecifier {
         read_specifier(alloc, text)
     }
 
-    /// How it compares.
+    /// Returns the operator.
     pub fn operator(&self) -> Operator
         ensures { result ≡ self.now.operator }
     {
         self.operator
     }
 
-    /// The version that it compares with.
+    /// Returns the version that the operator compares with.
     pub fn version(&self) -> &Version
         ensures version { result.now ≡ self.now.version }
         ensures built { IsBuilt self.now }
@@ -194,7 +207,7 @@ impl VersionSpecifier {
         &self.version
     }
 
-    /// The operator and the version.
+    /// Returns the operator and the version.
     pub fn into_parts(self) -> (Operator, Version)
         ensures parts { result ≡ (self.operator, self.version) }
         ensures built { IsBuilt self }
@@ -202,17 +215,17 @@ impl VersionSpecifier {
         (self.operator, self.version)
     }
 
-    /// Whether its version is a pre-release or a developmental release.
+    /// Returns whether the version is a pre-release or a developmental release.
     pub fn any_prerelease(&self) -> bool
         ensures { result ≡ is_prerelease self.now.version }
     {
         self.version.any_prerelease()
     }
 
-    /// Whether its version says where the versions that it takes begin: so for `==`, `===`, `~=`, `>` and
-    /// `>=`.
+    /// Returns whether the version is a lower bound of what the specifier accepts: so for `==`, `===`,
+    /// `~=`, `>` and `>=`.
     ///
-    /// With a star they begin below that version: `==1.2.*` takes `1.2.dev0`.
+    /// With a star the accepted versions begin below it: `==1.2.*` accepts `1.2.dev0`.
     pub fn has_lower_bound(&self) -> bool
         ensures { result ≡ bounds_below self.now.operator }
     {
@@ -230,7 +243,7 @@ impl VersionSpecifier {
         }
     }
 
-    /// A copy, in memory of its own.
+    /// Returns a copy, in memory of its own.
     pub fn try_clone(&self, alloc: Global) -> Result<VersionSpecifier, AllocError>
         ensures { IfOk result (λ copy. copy ≡ self.now) }
     {

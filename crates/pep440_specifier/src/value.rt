@@ -15,14 +15,17 @@ use serde_json::Value;
 use std::alloc::{AllocError, Global};
 
 impl VersionSpecifier {
-    /// The specifier as a JSON text: its print. Takes memory for the text.
+    /// Returns the specifier as a JSON text: its print. Takes memory for the text.
     pub fn to_value(&self, alloc: Global) -> Result<Value, AllocError>
         ensures { IfOk result (λ value. as_str (view value) ≡ Some (specifier_text self.now)) }
     {
         Ok(Value::String(self.to_string(alloc)?))
     }
 
-    /// Reads a JSON text as `from_str` does; another value is refused as `Shape`.
+    /// Reads a specifier from a JSON text as `from_str` does.
+    ///
+    /// # Errors
+    /// `Shape` where the value is not a text; `Text` with the error of `from_str`, lack of memory too.
     pub fn from_value(
         alloc: Global,
         value: &Value,

@@ -1,4 +1,4 @@
--- The specifiers of intervals that lie one behind another.
+-- The specifiers of intervals that follow one another.
 use Rattle.std.specs.Prelude.{List, [], ◌∷◌, ◌++◌, if◌then◌else◌, Option, Some, None, option_to_list}
 use Rattle.std.specs.declared.ops.Bound.{Bound}
 use Rattle.std.specs.declared.ops.Bound.TheVariants.{Included, Excluded}
@@ -28,7 +28,7 @@ gap_specifier (Excluded upper) (Included lower) =
     if is_next_minor upper lower then Some (record { operator = NotEqualStar; version = upper }) else None
 gap_specifier upper lower = None
 
--- and in all gaps behind an upper bound
+-- the specifiers of all gaps after an upper bound
 abbrev pub gap_specifiers : Bound VersionRecord → List Interval → List SpecifierRecord
 gap_specifiers upper [] = []
 gap_specifiers upper (next ∷ later) =

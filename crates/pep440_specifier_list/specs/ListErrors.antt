@@ -1,4 +1,4 @@
--- The text of which an error speaks, and what it prints.
+-- The text that an error is about, and the error's print.
 use Rattle.std.specs.Prelude.{ℕ, ◌-◌, List, [], ◌++◌, take, drop, codes}
 use Rattle.std.specs.String.{string_bytes}
 use Rattle.underline.specs.Underline.{columns, underlined}
@@ -9,7 +9,7 @@ use Rattle.pep440_specifier_list.specs.declared.parse_error.VersionSpecifiersPar
 }
 use Rattle.pep440_specifier_list.specs.declared.parse_error.VersionSpecifiersParseError.TheVariants as errors
 
--- the text that is no list; nothing for want of memory
+-- the text that is not a list; empty for lack of memory
 abbrev pub line_of : VersionSpecifiersParseError → List ℕ
 line_of errors.Memory = []
 line_of (errors.Specifier piece) = string_bytes piece.line
@@ -24,7 +24,8 @@ piece_picture piece =
     underlined (string_bytes piece.line) (columns (take piece.start (string_bytes piece.line)))
     (piece_columns (string_bytes piece.line) piece.start piece.end)
 
--- the print of why a text is no list: that of its first piece that is no specifier, and that piece underlined
+-- the print of why a text is not a list: that of its first piece that is not a specifier, and that piece
+-- underlined
 abbrev pub error_text : VersionSpecifiersParseError → List ℕ
 error_text errors.Memory = codes "out of memory"
 error_text (errors.Specifier piece) =

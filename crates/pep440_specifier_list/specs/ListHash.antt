@@ -1,11 +1,11 @@
--- What a hash is fed of a list.
+-- The input to a hash of a list.
 use Rattle.std.specs.Prelude.{ℕ, List, ◌++◌}
 use Rattle.std.specs.Hash as fed
 use Rattle.std.specs.List.{flat_map}
 use Rattle.pep440_specifier.specs.Matching.{SpecifierRecord}
 use Rattle.pep440_specifier.specs.SpecifierHash.{fed_specifier}
 
--- what a hash is fed of a list: each member with a byte before it, and a byte that ends it
+-- the input to a hash of a list: each member with a byte before it, and a byte that ends it
 abbrev pub fed_member : SpecifierRecord → List (List ℕ)
 fed_member member = fed.u8 1 ++ fed_specifier member
 

@@ -1,5 +1,5 @@
--- The order of lists: member by member, each by operator and then by version; a list before one that goes
--- on.
+-- The order of lists: member by member, each by operator and then by version; a list comes before a longer
+-- one that begins with it.
 use Rattle.std.specs.Prelude.{Bool, List}
 use Rattle.std.specs.declared.cmp.Ordering.{Ordering}
 use Rattle.std.specs.Ordering.{eq_by_cmp}

@@ -1,5 +1,5 @@
--- What there is to read of the text of a list: the pieces between commas, each a specifier; or the first
--- piece that is none, with its place in the text.
+-- The reading of the text of a list: the pieces between commas, each a specifier; or the first piece that
+-- is not one, with its place in the text.
 use Rattle.std.specs.Prelude.{◌≡◌, ℕ, ◌+◌, ◌==◌, List, [], ◌∷◌, length, Option, Some, None, Result, Ok, Err}
 use Rattle.std.specs.List.{slice_split}
 use Rattle.std.specs.Option.{option_map}
@@ -17,8 +17,8 @@ use Rattle.pep440_specifier_list.specs.Lists.{IsInOrder}
 
 -- ---- reading
 
--- why a text is no list: the text, where its first piece that is no specifier begins and ends in it, in
--- bytes, and that piece's fault
+-- why a text is not a list: the text, where its first piece that is not a specifier begins and ends in it,
+-- in bytes, and that piece's fault
 pub record ListFault : Type 0 where
   pub line : List ℕ
   pub start : ℕ
@@ -45,14 +45,14 @@ with_first (Err fault) others = Err fault
 with_first (Ok first) (Err fault) = Err fault
 with_first (Ok first) (Ok others) = Ok (first ∷ others)
 
--- the pieces of a line from a place on, a comma behind each but the last
+-- the pieces of a line from a place on, a comma after each but the last
 abbrev pub pieces_reading : List ℕ → ℕ → List (List ℕ) → ListReading
 pieces_reading line start [] = Ok []
 pieces_reading line start (piece ∷ pieces) =
     with_first (placed_reading line start (start + length piece) (specifier_reading piece))
     (pieces_reading line (start + length piece + 1) pieces)
 
--- what stands between the commas
+-- the pieces between the commas
 abbrev pub pieces_of : List ℕ → List (List ℕ)
 pieces_of text = slice_split (λ b. b == 44) text
 
@@ -61,7 +61,7 @@ abbrev pub line_reading : List ℕ → ListReading
 line_reading [] = Ok []
 line_reading (byte ∷ bytes) = pieces_reading (byte ∷ bytes) 0 (pieces_of (byte ∷ bytes))
 
--- the members of a text in the order given, or the first piece that is no specifier
+-- the members of a text in the order given, or the first piece that is not a specifier
 unfoldable pub list_reading : List ℕ → ListReading
 list_reading text = line_reading text
 
@@ -73,19 +73,19 @@ specifiers_of text = result_ok (list_reading text)
 abbrev pub IsReadFromText : SpecifierRecord → Type 0
 IsReadFromText specifier = (text : List ℕ) × (specifier_of text ≡ Some specifier)
 
--- ---- what is answered
+-- ---- results
 
--- the fault that an error tells; want of memory tells none
+-- the fault that an error reports; none for lack of memory
 abbrev pub told_list : VersionSpecifiersParseError → Option ListFault
 told_list errors.Memory = None
 told_list (errors.Specifier piece) =
     option_map (fault_at (string_bytes piece.line) piece.start piece.end) (told_specifier piece.error)
 
--- an error that tells no fault is want of memory itself, which is never inside another error
+-- an error that reports no fault is lack of memory itself, which is never inside another error
 abbrev pub TellsOrMemory : VersionSpecifiersParseError → Type 0
 TellsOrMemory error = told_list error ≡ None → error ≡ errors.Memory
 
--- an answer is what the text says, its members in order
+-- the result is the reading of the text, its members sorted by version
 abbrev pub ReadsList : Result (List SpecifierRecord) VersionSpecifiersParseError → List ℕ → Type 0
 ReadsList (Ok list) text =
     (given : List SpecifierRecord) × (list_reading text ≡ Ok given) × IsInOrder given list

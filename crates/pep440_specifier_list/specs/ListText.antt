@@ -1,5 +1,5 @@
--- The text of a list: specifiers with commas between them (PEP 440, "Version specifiers").
--- And what a list prints.
+-- The text of a list: specifiers with commas between them (PEP 440, "Version specifiers"). And the print of
+-- a list.
 use Rattle.std.specs.Prelude.{◌≡◌, ℕ, ◌<◌, ◌⊎◌, List, [], ◌∷◌, ◌++◌, length, map, codes}
 use Rattle.std.specs.List.{AllZip, flat_map, join_with_byte}
 use Rattle.pep440_specifier.specs.Matching.{SpecifierRecord}
@@ -14,7 +14,7 @@ pub record AreSpecifierTexts (text : List ℕ) (members : List SpecifierRecord) 
   pub are_specifiers : AllZip IsSpecifierText pieces members
   pub nonempty : 0 < length pieces
 
--- the text of a list, whose members stand by version; the empty text is the empty list
+-- the text of a list, whose members are sorted by version; the empty text is the empty list
 abbrev pub IsSpecifierListText : List ℕ → List SpecifierRecord → Type 0
 IsSpecifierListText text members =
     ((text ≡ []) × (members ≡ []))
@@ -33,6 +33,6 @@ separated separator (member ∷ members) =
 abbrev pub list_text : List SpecifierRecord → List ℕ
 list_text = separated (codes ", ")
 
--- the members with bare commas between them, as a list stands in JSON
+-- the members with bare commas between them, as a list is written in JSON
 abbrev pub list_value_text : List SpecifierRecord → List ℕ
 list_value_text members = join_with_byte 44 (map specifier_text members)

@@ -1,4 +1,4 @@
--- Lists of specifiers: their order, which versions they take, and how many members are asked for that.
+-- Lists of specifiers: their order, which versions they accept, and how many members are tested for that.
 use Rattle.std.specs.Prelude.{ℕ, ◌+◌, ◌-◌, ◌^◌, Bool, nat_lt, if◌then◌else◌, List, [], ◌∷◌}
 use Rattle.std.specs.List.{list_any, list_all}
 use Rattle.std.specs.List.Sorted.{IsSortedByKey, IsStableByKey}
@@ -16,7 +16,7 @@ pub record IsInOrder (given : List SpecifierRecord) (members : List SpecifierRec
   pub sorted : IsByVersion members
   pub stable : IsStableByKey (λ s. s.version) version_cmp given members
 
--- a list takes what each member takes (PEP 440, "Version specifiers")
+-- a list accepts what each member accepts (PEP 440, "Version specifiers")
 abbrev pub matches_all : List SpecifierRecord → VersionRecord → Bool
 matches_all members candidate = list_all (takes candidate) members
 
@@ -24,17 +24,17 @@ matches_all members candidate = list_all (takes candidate) members
 abbrev pub any_prerelease : List SpecifierRecord → Bool
 any_prerelease members = list_any (λ s. is_prerelease s.version) members
 
--- how many members are asked: up to the first that refuses, and it too
+-- the number of members that are tested: up to the first that rejects, this one included
 abbrev pub asked : List SpecifierRecord → VersionRecord → ℕ
 asked [] candidate = 0
 asked (member ∷ members) candidate = if takes candidate member then 1 + asked members candidate else 1
 
--- a list with the number of its members that were asked so far, up to 2 ^ 64 - 1
+-- a list with the number of its members that were tested so far, up to 2 ^ 64 - 1
 pub record CountedRecord : Type 0 where
   pub members : List SpecifierRecord
   pub tests : ℕ
 
--- so many more, as far as 64 bits hold them
+-- the count raised by `more`, as far as 64 bits hold it
 abbrev pub counted : CountedRecord → ℕ → CountedRecord
 counted old more =
     record old { tests = if nat_lt (old.tests + more) (2 ^ 64) then old.tests + more else 2 ^ 64 - 1 }

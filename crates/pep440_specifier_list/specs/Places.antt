@@ -1,4 +1,4 @@
--- Where a piece stands in a text.
+-- The place of a piece in a text.
 use Rattle.std.specs.Prelude.{ℕ, ◌≤◌, List}
 use Rattle.std.specs.Str.{IsCharBoundary}
 

@@ -1,11 +1,11 @@
--- Where a list's test stops for want of memory.
+-- Where a list's test stops for lack of memory.
 use Rattle.std.specs.Prelude.{◌≡◌, ℕ, ◌+◌, List, ◌∷◌, ◌++◌, length, All, IsTrue}
 use Rattle.pep440_version.specs.Record.{VersionRecord}
 use Rattle.pep440_operator.specs.declared.operator.Operator.TheVariants.{ExactEqual}
 use Rattle.pep440_specifier.specs.Matching.{SpecifierRecord, takes}
 
--- the last of so many members that are asked is one of `===`, which alone takes memory, and those before it
--- take the candidate
+-- the last of the `count` members that are tested is one of `===`, which alone takes memory, and those
+-- before it accept the candidate
 pub record IsRefusal (members : List SpecifierRecord) (candidate : VersionRecord) (count : ℕ) : Type 0 where
   pub before : List SpecifierRecord
   pub member : SpecifierRecord

@@ -1,4 +1,4 @@
-//! Asking the members of a list, one after another.
+//! Testing the members of a list, one after another.
 
 ghost use Rattle.std.specs.Prelude.{◌≡◌, ◌≢◌, ◌≤◌, length, All, IsOk, IfOk, OnOk, OnErr};
 ghost use Rattle.pep440_operator.specs.declared.operator.Operator.TheVariants.{ExactEqual};
@@ -9,14 +9,14 @@ use pep440_specifier::VersionSpecifier;
 use pep440_version::Version;
 use std::alloc::{AllocError, Global};
 
-/// What the members answer, and how many were asked for that.
+/// Whether the members accept a version, and how many were tested for that.
 #[derive(Drop)]
 pub(crate) struct Asking {
     pub(crate) asked: usize,
     pub(crate) answer: Result<bool, AllocError>,
 }
 
-/// Asks the members in order, up to the first that refuses the version or has no memory.
+/// Tests the members in order, up to the first that rejects the version or runs out of memory.
 pub(crate) fn ask(alloc: Global, members: &[VersionSpecifier], version: &Version) -> Asking
     ensures answer { IfOk result.answer (λ taken. taken ≡ matches_all members.now version.now) }
     ensures count { OnOk result.answer (result.asked ≡ asked members.now version.now) }

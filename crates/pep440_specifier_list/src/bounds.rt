@@ -1,4 +1,8 @@
 //! Lists of the specifiers of intervals.
+//!
+//! The intervals are meant to follow one another, but nothing requires it: the result is stated for any
+//! intervals, so no caller has to prove their order. The law that the list holds just these intervals
+//! speaks of ordered ones.
 
 ghost use Rattle.std.specs.Prelude.{◌≡◌, ◌∷◌, ◌++◌, length, map, option_to_list, IfOk, IsOk, OnOk};
 ghost use Rattle.version_ranges.specs.Bounds.{last_upper, lent_bounds};
@@ -14,16 +18,16 @@ use std::alloc::{AllocError, Global};
 use std::ops::Bound;
 
 impl VersionSpecifiers {
-    /// The list of intervals, whose versions have epoch 0 and a release alone; of no intervals, the empty
-    /// list.
+    /// Returns the list of specifiers for intervals, whose versions have epoch 0 and a release alone; the
+    /// empty list for no intervals.
     ///
-    /// Each interval is to end before the next begins: only the first may lack a lower bound, only the last
-    /// an upper one, and an upper bound is not above the next lower one. A gap of one version is said by
-    /// `!=`, one from `a.b` to below `a.(b+1)` by `!=a.b.*`, and any other gap by nothing, so that the list
-    /// takes its versions too.
+    /// Each interval has to end before the next begins: only the first may lack a lower bound, only the
+    /// last an upper one, and an upper bound is not above the next lower one. A gap of one version becomes
+    /// `!=`, one from `a.b` to below `a.(b+1)` becomes `!=a.b.*`, and any other gap is left out, so that
+    /// the list accepts its versions too.
     ///
-    /// Linear in the intervals, but for bringing the members in order. Takes memory for the list and copies
-    /// of versions, and none where there are no intervals.
+    /// Linear in the intervals, but for sorting the members. Takes memory for the list and copies of
+    /// versions, and none where there are no intervals.
     pub fn from_release_only_bounds(
         alloc: Global,
         bounds: &[(Bound<&Version>, Bound<&Version>)],
@@ -39,7 +43,7 @@ impl VersionSpecifiers {
     }
 }
 
-/// The specifiers of an interval and those behind it.
+/// Returns the specifiers of the interval between two bounds and of those after it.
 fn list_specifiers<'a>(
     alloc: Global,
     lower: Bound<&'a Version>,
@@ -59,7 +63,7 @@ fn list_specifiers<'a>(
     Ok(found)
 }
 
-/// The specifiers of the gaps behind an upper bound.
+/// Returns the specifiers of the gaps after an upper bound.
 fn gap_specifiers<'a>(
     alloc: Global,
     first: Bound<&'a Version>,
@@ -97,7 +101,7 @@ fn push_gap(
     Ok(())
 }
 
-/// The upper bound of the last interval, or else the one given.
+/// Returns the upper bound of the last interval, or the given one where there are no more intervals.
 fn last_upper<'a>(
     upper: Bound<&'a Version>,
     later: &'a [(Bound<&'a Version>, Bound<&'a Version>)],
@@ -113,7 +117,7 @@ fn last_upper<'a>(
     }
 }
 
-/// The specifier of the gap between an upper bound and the next lower one, where there is one.
+/// Returns the specifier of the gap between an upper bound and the next lower one, where there is one.
 #[tactic(auto, using(crate::proofs::ListBounds::release_is_star))]
 fn gap_specifier(
     alloc: Global,

@@ -1,4 +1,4 @@
-//! Lists that count how many of their members were asked.
+//! Lists that count how many of their members were tested.
 
 ghost use Rattle.std.specs.Prelude.{◌≡◌, ◌≢◌, ℕ, All, IsOk, IfOk, OnOk, OnErr};
 ghost use Rattle.pep440_operator.specs.declared.operator.Operator.TheVariants.{ExactEqual};
@@ -11,7 +11,7 @@ use pep440_version::Version;
 use std::alloc::{AllocError, Global};
 use std::marker::Model;
 
-/// A list that counts how many of its members were asked. The count stops at `u64::MAX`.
+/// A list that counts how many of its members were tested. The count stops at `u64::MAX`.
 #[derive(Drop)]
 pub struct CountedSpecifiers {
     list: VersionSpecifiers,
@@ -27,15 +27,15 @@ impl Model for CountedSpecifiers {
 }
 
 impl CountedSpecifiers {
-    /// The list, none of whose members was asked so far.
+    /// Returns the counting list, none of whose members was tested so far.
     pub fn new(list: VersionSpecifiers) -> CountedSpecifiers
         ensures { result ≡ record { members = list; tests = 0 } }
     {
         CountedSpecifiers { list, tests: 0 }
     }
 
-    /// What the list's `contains` answers. Each member that is asked counts as one test, one that has no
-    /// memory too: it is the last.
+    /// Returns whether the list accepts the version, as `contains` does. Each member that is tested is
+    /// counted, also one that runs out of memory, which is the last.
     pub fn contains_counted(&mut self, alloc: Global, version: &Version) -> Result<bool, AllocError>
         ensures answer { IfOk result (λ taken. taken ≡ matches_all self.old.members version.now) }
         ensures count { OnOk result (self.new ≡ counted self.old (asked self.old.members version.now)) }
@@ -48,7 +48,7 @@ impl CountedSpecifiers {
         asking.answer
     }
 
-    /// How many members were asked so far, up to `u64::MAX`.
+    /// Returns how many members were tested so far, up to `u64::MAX`.
     pub fn tests(&self) -> u64
         ensures { result ≡ self.now.tests }
     {

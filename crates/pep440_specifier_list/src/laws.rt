@@ -1,5 +1,4 @@
-//! Laws over the definitions that the contracts cite. The functions do nothing: each one's contract is its
-//! law.
+//! Laws of lists of specifiers. The functions do nothing: each one's contract is its law.
 
 ghost use Rattle.std.specs.Prelude.{◌≡◌, ◌↔◌, ℕ, [], true, List, All, IsTrue, Some};
 ghost use Rattle.std.specs.Str.{IsUtf8};
@@ -11,13 +10,13 @@ ghost use Rattle.pep440_specifier_list.specs.ListReading.{specifiers_of, IsReadF
 
 use pep440_specifier::laws::specifier_text_is_read;
 
-/// A list takes a version exactly where each of its members does (PEP 440, "Version specifiers").
+/// A list accepts a version exactly where each of its members does (PEP 440, "Version specifiers").
 pub fn a_list_takes_what_each_member_takes()
     ensures { (members : List SpecifierRecord) (candidate : VersionRecord)
         → IsTrue (matches_all members candidate) ↔ All (λ member. IsTrue (takes candidate member)) members }
 {}
 
-/// The empty list takes every version.
+/// The empty list accepts every version.
 pub fn the_empty_list_takes_all()
     ensures { (candidate : VersionRecord) → matches_all [] candidate ≡ true }
 {}
@@ -32,7 +31,7 @@ pub fn list_text_is_read()
     specifier_text_is_read();
 }
 
-/// Each member of a list that was read is a specifier as which some text is read.
+/// Each member of a list that was read from a text is a specifier that can itself be read from some text.
 pub fn members_are_read_from_texts()
     ensures { (text : List ℕ) (given members : List SpecifierRecord) → specifiers_of text ≡ Some given
         → IsInOrder given members → All IsReadFromText members }

@@ -1,6 +1,6 @@
 //! Lists of version specifiers, as PEP 440 has them.
 //!
-//! Contracts see a `VersionSpecifiers` as the list of its members, by version.
+//! The model of a `VersionSpecifiers` in contracts is the list of its members, sorted by version.
 #![tactic(auto)]
 
 mod asking;

@@ -1,4 +1,7 @@
-//! Why a text is no list of specifiers.
+//! Why a text is not a list of specifiers.
+//!
+//! The error has the piece's fault, the line, and the piece's place, which is on a character of the line;
+//! its print shows the line with the piece underlined.
 
 ghost use Rattle.std.specs.Prelude.{◌≡◌, Some};
 ghost use Rattle.pep440_specifier_list.specs.ListErrors.{line_of, error_text};
@@ -8,17 +11,17 @@ use std::alloc::{AllocError, AllocFailed};
 use std::error::Error;
 use std::fmt;
 
-/// Why a text is no list of specifiers.
+/// Why a text is not a list of specifiers.
 #[derive(Debug, PartialEq, Eq, Drop)]
 pub enum VersionSpecifiersParseError {
     /// Memory ran out while reading.
     Memory,
-    /// The first piece between commas that is no specifier.
+    /// The first piece between commas that is not a specifier.
     Specifier(RefusedPiece),
 }
 
 impl VersionSpecifiersParseError {
-    /// The text that is no list; empty for want of memory.
+    /// Returns the text that is not a list; empty where memory ran out.
     pub fn line(&self) -> &str
         ensures { result.now ≡ line_of self.now }
     {

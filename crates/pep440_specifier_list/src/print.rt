@@ -11,7 +11,7 @@ use pep440_specifier::VersionSpecifier;
 use std::fmt;
 use std::marker::Model;
 
-/// A member, and more with a separator before each.
+/// A printer of a member, and of more with a separator before each.
 #[derive(Clone, Copy)]
 struct Members<'a> {
     first: &'a VersionSpecifier,
@@ -34,7 +34,7 @@ impl fmt::Display for Members<'_> {
     }
 }
 
-/// Members with a separator between them.
+/// A printer of members with a separator between them.
 #[derive(Clone, Copy)]
 struct Separated<'a> {
     members: &'a [VersionSpecifier],
@@ -77,8 +77,8 @@ impl fmt::Display for VersionSpecifiers {
     }
 }
 
-/// The members of a list with bare commas between them, as `>=1.16,<2.0`: the list as it stands in JSON and
-/// in a requirement's text. It borrows the list.
+/// A printer of a list's members with bare commas between them, as `>=1.16,<2.0`: the form in JSON and in a
+/// requirement's text. It borrows the list.
 #[derive(Drop)]
 pub struct BareCommas<'a> {
     members: &'a [VersionSpecifier],
@@ -110,8 +110,8 @@ impl fmt::Display for BareCommas<'_> {
 }
 
 impl VersionSpecifiers {
-    /// The list as a text with bare commas between its members. Takes no memory; printing it is linear in the
-    /// text.
+    /// Returns the list as a value that prints with bare commas between its members. Takes no memory;
+    /// printing it is linear in the text.
     pub fn bare_commas(&self) -> BareCommas<'_>
         ensures { result ≡ self.now }
     {

@@ -1,4 +1,8 @@
 //! Reading the text of a list.
+//!
+//! Pieces are read one after another, with their place in bytes. Members stay in the order given until all
+//! are read, and are then sorted (`IsInOrder`). Room is reserved for at most four members, and a longer
+//! list grows, so that a text of nothing but commas needs no more memory than what was read of it.
 
 ghost use Rattle.std.specs.Prelude.{◌≡◌, [], length, IfErr, IfOk, IsOk};
 ghost use Rattle.read_outcome.specs.Outcome.{Answers};
@@ -15,8 +19,12 @@ impl VersionSpecifiers {
     /// Reads specifiers with commas between them, as `>=1.16, <2.0`; the empty text is the empty list (PEP
     /// 440, "Version specifiers").
     ///
-    /// Linear in the text, but for bringing the members in order; takes memory for the members, and none for
-    /// the empty text. The error names the first piece between commas that is no specifier.
+    /// Linear in the text, but for sorting the members; takes memory for the members, and none for the
+    /// empty text.
+    ///
+    /// # Errors
+    /// `Specifier` with the first piece between commas that is not a specifier; `Memory` where memory ran
+    /// out.
     pub fn from_str(
         alloc: Global,
         text: &str,
@@ -36,7 +44,7 @@ impl VersionSpecifiers {
     }
 }
 
-/// Room for as many members as there are pieces between commas, or for four where there are more.
+/// Returns an empty list of members with room for one for each piece between commas, and at most four.
 fn few_places(alloc: Global, text: &str) -> Result<Vec<VersionSpecifier>, AllocError>
     ensures { IfOk result (λ places. places.items ≡ []) }
 {
@@ -44,7 +52,7 @@ fn few_places(alloc: Global, text: &str) -> Result<Vec<VersionSpecifier>, AllocE
     Vec::with_capacity(alloc, commas.min(3) + 1)
 }
 
-/// The members that the pieces between commas are, in the order given.
+/// Reads the pieces between commas as members, in the order given.
 fn read_members(
     alloc: Global,
     text: &str,
@@ -63,7 +71,7 @@ fn read_members(
     Ok(members)
 }
 
-/// The member that the piece of a text at a place is.
+/// Reads the piece of a text, from `start` to `end` in it, as a member.
 fn read_piece(
     alloc: Global,
     text: &str,

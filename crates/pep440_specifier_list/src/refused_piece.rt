@@ -1,4 +1,6 @@
-//! The piece of a text for which the text is no list.
+//! The piece that makes a text not a list.
+//!
+//! The piece is a struct with a ghost field and not a model, since errors derive their equality.
 
 ghost use Rattle.std.specs.Prelude.{◌≢◌, None};
 ghost use Rattle.std.specs.String.{string_bytes};
@@ -8,8 +10,8 @@ ghost use Rattle.pep440_specifier_list.specs.Places.{IsPlaced};
 use pep440_specifier::VersionSpecifierParseError;
 use underline::{Underlined, columns};
 
-/// The first piece between commas of a text that is no specifier: what is wrong with it, and where it stands
-/// in the text.
+/// The first piece between commas that is not a specifier: what is wrong with it, and where in the text it
+/// is.
 #[derive(Debug, PartialEq, Eq, Drop)]
 pub struct RefusedPiece {
     pub(crate) error: VersionSpecifierParseError,
@@ -28,7 +30,7 @@ impl RefusedPiece {
     ghost use Rattle.pep440_specifier_list.specs.Places.{IsPlaced};
     ghost use Rattle.pep440_specifier_list.specs.ListErrors.{piece_columns};
 
-    /// What is wrong with the piece; never want of memory.
+    /// Returns what is wrong with the piece; never lack of memory.
     pub fn error(&self) -> &VersionSpecifierParseError
         ensures error { result.now ≡ self.now.error }
         ensures plain { told_specifier self.now.error ≢ None }
@@ -36,14 +38,14 @@ impl RefusedPiece {
         &self.error
     }
 
-    /// The whole text.
+    /// Returns the whole text.
     pub fn line(&self) -> &str
         ensures { result.now ≡ string_bytes self.now.line }
     {
         self.line.as_str()
     }
 
-    /// Where the piece begins in the text, in bytes.
+    /// Returns where the piece begins in the text, in bytes.
     pub fn start(&self) -> usize
         ensures start { result ≡ self.now.start }
         ensures placed { IsPlaced (string_bytes self.now.line) self.now.start self.now.end }
@@ -51,7 +53,7 @@ impl RefusedPiece {
         self.start
     }
 
-    /// Where it ends.
+    /// Returns where the piece ends in the text, in bytes.
     pub fn end(&self) -> usize
         ensures end { result ≡ self.now.end }
         ensures placed { IsPlaced (string_bytes self.now.line) self.now.start self.now.end }
@@ -59,7 +61,7 @@ impl RefusedPiece {
         self.end
     }
 
-    /// The piece itself. Takes no memory.
+    /// Returns the piece itself. Takes no memory.
     pub fn piece(&self) -> &str
         ensures { result.now
             ≡ take (self.now.end - self.now.start) (drop self.now.start (string_bytes self.now.line)) }
@@ -67,7 +69,7 @@ impl RefusedPiece {
         &self.line.as_str()[self.start..self.end]
     }
 
-    /// The whole text with the piece underlined. Takes no memory.
+    /// Returns the whole text with the piece underlined. Takes no memory.
     pub fn underlined(&self) -> Underlined<'_>
         ensures text { result.text.now ≡ string_bytes self.now.line }
         ensures blanks { result.blanks ≡ columns (take self.now.start (string_bytes self.now.line)) }

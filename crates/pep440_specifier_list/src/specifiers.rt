@@ -14,9 +14,10 @@ use std::alloc::{AllocError, Global};
 use std::marker::Model;
 use std::{slice, vec};
 
-/// Specifiers, of which each has to take a version for the list to take it (PEP 440, "Version specifiers").
+/// A list of specifiers, which accepts the versions that each of them accepts (PEP 440, "Version
+/// specifiers").
 ///
-/// They stand by their versions, those of equal versions in the order in which they were given.
+/// The members are sorted by their versions, those of equal versions in the order in which they were given.
 #[derive(Drop)]
 pub struct VersionSpecifiers {
     members: Vec<VersionSpecifier>,
@@ -35,7 +36,7 @@ impl Model for VersionSpecifiers {
 }
 
 impl VersionSpecifiers {
-    /// The list of no members, which takes every version. It takes no memory.
+    /// Returns the list of no members, which accepts every version. It takes no memory.
     pub fn empty(alloc: Global) -> VersionSpecifiers
         ensures { result ≡ [] }
     {
@@ -44,7 +45,8 @@ impl VersionSpecifiers {
         }
     }
 
-    /// The list of these members, which it brings in order. Takes memory for more than 20 of them alone.
+    /// Returns the list of these members, which it sorts by version. Takes memory for more than 20 of them
+    /// alone.
     pub fn from_specifiers(
         _alloc: Global,
         specifiers: Vec<VersionSpecifier>,
@@ -56,7 +58,7 @@ impl VersionSpecifiers {
         Ok(VersionSpecifiers { members })
     }
 
-    /// The list of this one member. Takes memory for its place.
+    /// Returns the list of this one member. Takes memory for its place.
     pub fn from_specifier(
         alloc: Global,
         specifier: VersionSpecifier,
@@ -68,14 +70,14 @@ impl VersionSpecifiers {
         Ok(VersionSpecifiers { members })
     }
 
-    /// Whether it has no members.
+    /// Returns whether the list has no members.
     pub fn is_empty(&self) -> bool
         ensures { result ≡ (length self.now == 0) }
     {
         self.members.is_empty()
     }
 
-    /// The members, by version.
+    /// Returns the members, sorted by version.
     pub fn as_slice(&self) -> &[VersionSpecifier]
         ensures members { result.now ≡ self.now }
         ensures order { IsByVersion self.now }
@@ -83,7 +85,7 @@ impl VersionSpecifiers {
         self.members.as_slice()
     }
 
-    /// The members, by version, one after another.
+    /// Returns an iterator over the members, sorted by version.
     pub fn iter(&self) -> slice::Iter<'_, VersionSpecifier>
         ensures rest { iter_rest result ≡ self.now }
         ensures runs { EveryRun (iter_steps {A = VersionSpecifier})
@@ -92,7 +94,7 @@ impl VersionSpecifiers {
         self.members.iter()
     }
 
-    /// The members, by version, one after another, and no list any more.
+    /// Returns an iterator that owns the members, sorted by version; it consumes the list.
     pub fn into_iter(self) -> vec::IntoIter<VersionSpecifier>
         ensures rest { into_iter_items result ≡ self }
         ensures len { into_iter_len result ≡ length self }
@@ -102,10 +104,10 @@ impl VersionSpecifiers {
         self.members.into_iter()
     }
 
-    /// Whether each member takes the version (PEP 440, "Version specifiers").
+    /// Returns whether each member accepts the version (PEP 440, "Version specifiers").
     ///
-    /// Asks the members in order, up to the first that refuses. Takes memory for members of `===` alone,
-    /// which compare prints.
+    /// Tests the members in order, up to the first that rejects. Takes memory for members of `===` alone,
+    /// which compare prints, and fails only where memory for these ran out.
     pub fn contains(&self, alloc: Global, version: &Version) -> Result<bool, AllocError>
         ensures matching { IfOk result (λ taken. taken ≡ matches_all self.now version.now) }
         ensures memory { All (λ s. s.operator ≢ ExactEqual) self.now → IsOk result }
@@ -113,15 +115,15 @@ impl VersionSpecifiers {
         ask(alloc, &self.members, version).answer
     }
 
-    /// Whether some member's version is a pre-release or a developmental release, whatever its operator
-    /// (PEP 440, "Handling of pre-releases"). Looks at each member at most once.
+    /// Returns whether some member's version is a pre-release or a developmental release, whatever its
+    /// operator (PEP 440, "Handling of pre-releases"). Looks at each member at most once.
     pub fn any_prerelease(&self) -> bool
         ensures { result ≡ any_prerelease self.now }
     {
         self.members.iter().any(|member| member.any_prerelease())
     }
 
-    /// A copy, in memory of its own.
+    /// Returns a copy, in memory of its own.
     pub fn try_clone(&self, alloc: Global) -> Result<VersionSpecifiers, AllocError>
         ensures { IfOk result (λ copy. copy ≡ self.now) }
     {

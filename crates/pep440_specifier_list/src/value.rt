@@ -13,14 +13,18 @@ use serde_json::Value;
 use std::alloc::{AllocError, Global};
 
 impl VersionSpecifiers {
-    /// The list as a JSON text: its members with bare commas between them. Takes memory for the text.
+    /// Returns the list as a JSON text: its members with bare commas between them. Takes memory for the
+    /// text.
     pub fn to_value(&self, alloc: Global) -> Result<Value, AllocError>
         ensures { IfOk result (λ value. as_str (view value) ≡ Some (list_value_text self.now)) }
     {
         Ok(Value::String(self.bare_commas().to_string(alloc)?))
     }
 
-    /// Reads a JSON text as `from_str` does; another value is refused as `Shape`.
+    /// Reads a list from a JSON text as `from_str` does.
+    ///
+    /// # Errors
+    /// `Shape` where the value is not a text; `Text` with the error of `from_str`, lack of memory too.
     pub fn from_value(
         alloc: Global,
         value: &Value,

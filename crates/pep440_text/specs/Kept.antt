@@ -1,5 +1,5 @@
--- What a version says beside its epoch, its release and its local part, and how numbers that may be absent
--- are kept.
+-- The parts of a version other than its epoch, its release and its local part, and how numbers that may be
+-- absent are kept.
 use Rattle.std.specs.Prelude.{ℕ, Bool, true, false, Option, Some, None}
 use Rattle.pep440_text.specs.declared.Prerelease.{Prerelease}
 use Rattle.pep440_text.specs.declared.PrereleaseKind.{PrereleaseKind}
@@ -12,7 +12,7 @@ pub record SuffixRecord : Type 0 where
   pub least : Option ℕ
   pub most : Option ℕ
 
--- a number, where it is said to be there
+-- a number, where it is there
 abbrev pub kept : Bool → ℕ → Option ℕ
 kept true number = Some number
 kept false number = None

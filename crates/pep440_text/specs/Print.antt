@@ -1,4 +1,4 @@
--- What a version prints (PEP 440, "Normalization"): each part in its shortest form.
+-- The print of a version (PEP 440, "Normalization"): each part in its shortest form.
 use Rattle.std.specs.Prelude.{ℕ, ◌==◌, if◌then◌else◌, codes, List, [], ◌∷◌, ◌++◌, Option, Some, None, map}
 use Rattle.std.specs.Fmt.{decimal}
 use Rattle.std.specs.List.{join_with_byte}

@@ -1,4 +1,4 @@
--- The versions that a text says: those whose print is read as them.
+-- The versions whose print is read as them.
 use Rattle.std.specs.Prelude.{◌≡◌, ℕ, ◌<◌, ◌≤◌, ◌^◌, true, IsTrue, List, length, map, None}
 use Rattle.std.specs.Char.{is_ascii_alphanumeric, to_ascii_lowercase}
 use Rattle.std.specs.List.{AllByRecursion}
@@ -18,7 +18,7 @@ abbrev pub IsPrintableSegment : Segment → Type 0
 IsPrintableSegment (Text bytes) = IsPrintableText bytes
 IsPrintableSegment (Number number) = number < 2 ^ 64
 
--- a version that stands at no end of a range, and whose numbers and segments a text can have (PEP 440,
+-- a version without a mark as a range's end, and whose numbers and segments a text can contain (PEP 440,
 -- "Version scheme")
 pub record IsPrintable (version : VersionRecord) : Type 0 where
   pub no_least : version.least ≡ None

@@ -1,4 +1,5 @@
--- What is read of the text of a version, from its front on: a value and what follows it, or the first fault.
+-- The reading of the text of a version, from its front on: a value and the bytes after it, or the first
+-- fault.
 use Rattle.std.specs.Prelude.{ℕ, zero, suc, ◌^◌, ◌==◌, Bool, true, false, nat_lt, if◌then◌else◌, List, []}
 use Rattle.std.specs.Prelude.{◌∷◌, ◌++◌, length, drop, Option, Some, None, unwrap_or, option_map, Result, Ok}
 use Rattle.std.specs.Prelude.{Err}
@@ -20,7 +21,7 @@ abbrev pub ◌>>=◌ : {A B : Type 0} → Result A TextFault → (A → Result B
 (Ok x) >>= f = f x
 (Err fault) >>= f = Err fault
 
--- a fault that stands where these bytes are left
+-- a fault at which these bytes are left
 abbrev pub at_left : {A : Type 0} → FaultKind → List ℕ → Result A TextFault
 at_left kind bytes = Err (record { kind = kind; left = length bytes })
 
@@ -30,12 +31,12 @@ at_left kind bytes = Err (record { kind = kind; left = length bytes })
 abbrev pub after_white : List ℕ → List ℕ
 after_white bytes = drop (prefix_len is_ascii_whitespace bytes) bytes
 
--- what follows a `v`, where one stands at the front
+-- the bytes after a `v`, where one is at the front
 abbrev pub after_v : List ℕ → List ℕ
 after_v [] = []
 after_v (byte ∷ bytes) = if to_ascii_lowercase byte == 118 then bytes else byte ∷ bytes
 
--- what follows a separator, where one stands at the front
+-- the bytes after a separator, where one is at the front
 abbrev pub after_separator : List ℕ → List ℕ
 after_separator [] = []
 after_separator (byte ∷ bytes) = if is_separator byte then bytes else byte ∷ bytes
@@ -45,12 +46,12 @@ abbrev pub leading_digits : List ℕ → List ℕ
 leading_digits [] = []
 leading_digits (byte ∷ bytes) = if is_ascii_digit byte then byte ∷ leading_digits bytes else []
 
--- what follows them
+-- the bytes after the digits at the front
 abbrev pub behind_digits : List ℕ → List ℕ
 behind_digits [] = []
 behind_digits (byte ∷ bytes) = if is_ascii_digit byte then behind_digits bytes else byte ∷ bytes
 
--- the value of digits, where there are any; `bytes` is left where they stand
+-- the value of digits, where there are any; `bytes` is left where they begin
 abbrev pub number_of : List ℕ → List ℕ → Result (Option ℕ) TextFault
 number_of bytes [] = Ok None
 number_of bytes (digit ∷ digits) =
@@ -61,12 +62,12 @@ number_of bytes (digit ∷ digits) =
 unfoldable pub number_at : List ℕ → Result (Option ℕ × List ℕ) TextFault
 number_at bytes = number_of bytes (leading_digits bytes) >>= λ number. Ok (number, behind_digits bytes)
 
--- a part that was found behind something; where there is none, nothing was taken
+-- a part that was found after something; where there is none, nothing was read
 abbrev pub or_none : {A : Type 0} → List ℕ → Option A × List ℕ → Option A × List ℕ
 or_none bytes (None, rest) = (None, bytes)
 or_none bytes (Some value, rest) = (Some value, rest)
 
--- a number behind a byte
+-- a number after a byte
 abbrev pub behind_mark : ℕ → List ℕ → List ℕ → Result (Option ℕ × List ℕ) TextFault
 behind_mark mark bytes [] = Ok (None, bytes)
 behind_mark mark bytes (byte ∷ rest) =
@@ -91,7 +92,7 @@ epoch_by bytes (digit ∷ digits) (byte ∷ rest) =
 unfoldable pub epoch_at : List ℕ → Result (Option ℕ × List ℕ) TextFault
 epoch_at bytes = epoch_by bytes (leading_digits bytes) (behind_digits bytes)
 
--- what was read, behind a front
+-- what was read, after a front
 abbrev pub with_front : {A : Type 0} → List A → Result (List A × List ℕ) TextFault
     → Result (List A × List ℕ) TextFault
 with_front front read = read >>= λ found. Ok (front ++ found.0, found.1)
@@ -101,7 +102,7 @@ abbrev pub more_numbers : (List ℕ → Result (List ℕ × List ℕ) TextFault)
 more_numbers more (None, rest) = Ok ([], rest)
 more_numbers more (Some number, rest) = with_front (number ∷ []) (more rest)
 
--- at most so many numbers behind dots
+-- at most `count` numbers after dots
 abbrev pub numbers_at : ℕ → List ℕ → Result (List ℕ × List ℕ) TextFault
 numbers_at zero bytes = Ok ([], bytes)
 numbers_at (suc count) bytes = marked_number_at 46 bytes >>= more_numbers (numbers_at count)
@@ -110,7 +111,7 @@ abbrev pub release_by : List ℕ → Option ℕ × List ℕ → Result (List ℕ
 release_by bytes (None, rest) = at_left NoLeadingNumber bytes
 release_by bytes (Some number, rest) = with_front (number ∷ []) (numbers_at (length rest) rest)
 
--- a number, and numbers behind dots as long as there are any
+-- a number, and numbers after dots as long as there are any
 unfoldable pub release_at : List ℕ → Result (List ℕ × List ℕ) TextFault
 release_at bytes = number_at bytes >>= release_by bytes
 
@@ -122,7 +123,7 @@ head_at bytes =
 
 -- ---- suffixes
 
--- what follows a word in either case, where it stands at the front
+-- the bytes after a word in either case, where it is at the front
 abbrev pub behind_word : List ℕ → List ℕ → Option (List ℕ)
 behind_word [] bytes = Some bytes
 behind_word (letter ∷ letters) [] = None
@@ -133,7 +134,7 @@ abbrev pub or_word : {A : Type 0} → A → Option (List ℕ) → Option (A × L
 or_word meaning (Some rest) others = Some (meaning, rest)
 or_word meaning None others = others
 
--- what the first of some words that stands at the front means, and what follows it
+-- the meaning of the first of some words that is at the front, and the bytes after it
 unfoldable pub word_at : {A : Type 0} → List (List ℕ × A) → List ℕ → Option (A × List ℕ)
 word_at [] bytes = None
 word_at (word ∷ words) bytes = or_word word.1 (behind_word word.0 bytes) (word_at words bytes)
@@ -155,7 +156,7 @@ pre_at bytes =
     suffix_at pre_words bytes >>= λ found.
     Ok (option_map (λ said. record { kind = said.0; number = said.1 }) found.0, found.1)
 
--- the number of a suffix whose word says nothing
+-- the number of a suffix whose words all mean the same
 abbrev pub plain_suffix_at : List (List ℕ × Unit {0}) → List ℕ → Result (Option ℕ × List ℕ) TextFault
 plain_suffix_at words bytes =
     suffix_at words bytes >>= λ found. Ok (option_map (λ said. said.1) found.0, found.1)
@@ -190,7 +191,7 @@ more_segments more segment [] = Ok (segment ∷ [], [])
 more_segments more segment (byte ∷ rest) =
     if is_separator byte then with_front (segment ∷ []) (more rest) else Ok (segment ∷ [], byte ∷ rest)
 
--- at most so many segments, with separators between them; behind a separator there has to be one
+-- at most `count` segments, with separators between them; after a separator there has to be one
 abbrev pub segments_at : ℕ → List ℕ → Result (List Segment × List ℕ) TextFault
 segments_at zero bytes = at_left LocalEmpty bytes
 segments_at (suc count) bytes =
@@ -214,7 +215,7 @@ end_by (byte ∷ bytes) = at_left UnexpectedEnd (byte ∷ bytes)
 unfoldable pub end_at : List ℕ → Result (Unit {0}) TextFault
 end_at bytes = end_by (after_white bytes)
 
--- the version of an epoch, a release and the parts behind it
+-- the version of an epoch, a release and the parts after it
 unfoldable pub suffixed : ℕ × List ℕ → List ℕ → Result VersionRecord TextFault
 suffixed said bytes =
     pre_at bytes >>= λ pre. post_at pre.1 >>= λ post. dev_at post.1 >>= λ dev. local_at dev.1 >>= λ local.

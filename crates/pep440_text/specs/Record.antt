@@ -6,12 +6,13 @@ use Rattle.pep440_text.specs.declared.LocalSegment.TheVariants as variants
 use Rattle.pep440_text.specs.declared.Prerelease.{Prerelease}
 use Rattle.pep440_text.specs.declared.VersionParts.{VersionParts}
 
--- a segment of a local part: a text that is no number, or a number (PEP 440, "Local version identifiers")
+-- a segment of a local part: a text that is not a number, or a number (PEP 440, "Local version
+-- identifiers")
 pub data Segment : Type 0 where
   Text : List ℕ → Segment
   Number : ℕ → Segment
 
--- what a version says; `least` and `most` mark the ends of ranges and stand in no text
+-- the parts of a version; `least` and `most` mark the ends of ranges and are in no text
 pub record VersionRecord : Type 0 where
   pub epoch : ℕ
   pub release : List ℕ
@@ -40,7 +41,7 @@ release_record numbers =
 abbrev pub without_local : VersionRecord → VersionRecord
 without_local version = record version { local = [] }
 
--- the version with so many zeros more at the end of its release (PEP 440, "Final releases")
+-- the version with `count` more zeros at the end of its release (PEP 440, "Final releases")
 abbrev pub with_end_zeros : ℕ → VersionRecord → VersionRecord
 with_end_zeros count version = record version { release = version.release ++ replicate count 0 }
 
@@ -59,7 +60,7 @@ pub record PatternRecord : Type 0 where
 abbrev pub epoch_record : ℕ → List ℕ → VersionRecord
 epoch_record epoch numbers = record (release_record numbers) { epoch = epoch }
 
--- what the parts of a text say
+-- the version of the parts of a text
 abbrev pub said : VersionParts → VersionRecord
 said parts =
     record (epoch_record parts.epoch parts.release.items) {

@@ -1,6 +1,5 @@
--- The text of a version: what its parts are, and what they say (PEP 440, "Version scheme" and Appendix B).
--- Letters stand in either case. A part that may be there is there wherever it can be, and is as long as it
--- can be.
+-- The text of a version: its parts and their meanings (PEP 440, "Version scheme" and Appendix B). Letters
+-- are in either case. An optional part is there wherever it can be, and is as long as it can be.
 use Rattle.std.specs.Prelude.{◌≡◌, ℕ, ◌<◌, ◌≤◌, ◌^◌, ◌==◌, ◌||◌, ◌&&◌, ◌⊎◌, Bool, cond, if◌then◌else◌, nat_lt}
 use Rattle.std.specs.Prelude.{IsTrue, IfSome, All, List, [], ◌∷◌, ◌++◌, length, map, codes, Option, Some}
 use Rattle.std.specs.Prelude.{None, unwrap_or}
@@ -36,7 +35,7 @@ Optional Is text (Some value) rest = Front Is text value rest
 
 -- ---- the parts
 
--- white space, which may stand around a version: tab, line feed, form feed, carriage return, blank
+-- white space, which is allowed around a version: tab, line feed, form feed, carriage return, blank
 abbrev pub AreWhite : List ℕ → Type 0
 AreWhite = AllByRecursion (λ b. IsTrue (is_ascii_whitespace b))
 
@@ -68,11 +67,11 @@ is_separator byte = byte == 46 || (byte == 45 || byte == 95)
 abbrev pub IsSeparatorOrNone : List ℕ → Type 0
 IsSeparatorOrNone text = (text ≡ []) ⊎ ((byte : ℕ) × (text ≡ byte ∷ []) × IsTrue (is_separator byte))
 
--- a number, or nothing, which says 0
+-- a number, or nothing, which means 0
 abbrev pub IsNumberOrNone : List ℕ → ℕ → Type 0
 IsNumberOrNone text number = ((text ≡ []) × (number ≡ 0)) ⊎ IsNumber text number
 
--- one of some words, and what it means
+-- one of some words, and its meaning
 abbrev pub IsOneOf : {A : Type 0} → List (List ℕ × A) → List ℕ → A → Type 0
 IsOneOf [] text meaning = ⊥
 IsOneOf (word ∷ words) text meaning =
@@ -108,7 +107,7 @@ dev_words = (codes "dev", tt) ∷ []
 abbrev pub IsPre : List ℕ → Prerelease → Type 0
 IsPre text pre = IsSuffix pre_words text (pre.kind, pre.number)
 
--- a number behind a byte
+-- a number after a byte
 abbrev pub IsMarkedNumber : ℕ → List ℕ → ℕ → Type 0
 IsMarkedNumber mark text number = (digits : List ℕ) × (text ≡ mark ∷ digits) × IsNumber digits number
 
@@ -120,7 +119,7 @@ IsPost text number = IsMarkedNumber 45 text number ⊎ IsSuffix post_words text 
 abbrev pub IsDev : List ℕ → ℕ → Type 0
 IsDev text number = IsSuffix dev_words text (tt, number)
 
--- what letters and digits say: digits up to 2 ^ 64 - 1 are a number, others a text in lower case
+-- the segment of letters and digits: digits up to 2 ^ 64 - 1 are a number, others a text in lower case
 abbrev pub segment_said : List ℕ → Segment
 segment_said text =
     if all_ascii_digits text && nat_lt (digits_value 10 text) (2 ^ 64) then Number (digits_value 10 text)
@@ -148,7 +147,7 @@ IsLocalOrNone text (segment ∷ segments) =
 
 -- ---- the whole
 
--- each number is one that 64 bits hold; digits of a larger one are no part of a version
+-- each number fits 64 bits; digits of a larger one are not part of a version
 pub record Fits (version : VersionRecord) : Type 0 where
   pub epoch : version.epoch < 2 ^ 64
   pub release : All (λ number. number < 2 ^ 64) version.release
@@ -190,7 +189,7 @@ pub record IsVersionText (text : List ℕ) (version : VersionRecord) : Type 0 wh
   pub no_most : version.most ≡ None
   pub fits : Fits version
 
--- the text of a version of epoch and release alone, and `.*` behind it (PEP 440, "Version matching")
+-- the text of a version of epoch and release alone, followed by `.*` (PEP 440, "Version matching")
 pub record IsStarText (text : List ℕ) (version : VersionRecord) : Type 0 where
   pub after_release : List ℕ
   pub head : IsHead text version.epoch version.release after_release

@@ -1,5 +1,4 @@
-//! Laws over the definitions that the contracts cite. The functions do nothing: each one's contract is its
-//! law.
+//! Laws of the texts of versions. The functions do nothing: each one's contract is its law.
 
 ghost use Rattle.std.specs.Prelude.{◌≡◌, ℕ, ◌↔◌, List, Some, Err};
 ghost use Rattle.std.specs.Str.{IsUtf8};
@@ -35,20 +34,20 @@ pub fn text_has_one_pattern()
         → IsPatternText text pattern → IsPatternText text other → pattern ≡ other }
 {}
 
-/// The print of each printable version is read as that version: also of one that was made from others, as by
-/// dropping its local part or by raising a number.
+/// The print of each printable version is read as that version: also of one that was made from others, as
+/// by dropping its local part or by raising a number.
 pub fn print_reads_back()
     ensures { (version : VersionRecord)
         → IsPrintable version → version_of (version_text version) ≡ Some version }
 {}
 
-/// A version that was read of some text is printable.
+/// A version that was read from some text is printable.
 pub fn read_is_printable()
     ensures { (text : List ℕ) (version : VersionRecord)
         → version_of text ≡ Some version → IsPrintable version }
 {}
 
-/// The fault of a text stands between two of its characters, or at its end: the text may be cut there.
+/// The fault of a text lies between two of its characters, or at its end: the text may be split there.
 pub fn faults_stand_between_characters()
     ensures version { (text : List ℕ) (fault : TextFault)
         → IsUtf8 text → read_version text ≡ Err fault → StandsIn text fault }

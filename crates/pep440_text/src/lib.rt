@@ -1,8 +1,19 @@
-//! The texts of versions, as PEP 440 has them: their parts, what is read of them and what they print.
-//!
-//! `read_version` and `read_pattern` give the parts of a text; the crate of versions makes a `Version` of
-//! them.
 #![tactic(auto)]
+//! The texts of versions, as PEP 440 has them: their parts, how they are read and what they print.
+//!
+//! `read_version` and `read_pattern` return the parts of a text, of which the crate of versions makes a
+//! `Version`.
+//!
+//! The crate is below `pep440_version`, so that `Version::from_str` is an ordinary method.
+//!
+//! The grammar says what each part of a version is, and one general rule says when an optional part is
+//! present: wherever some prefix of the rest is such a part, and then the longest such prefix is taken. So
+//! `1.0a-1` is `1.0a1` and not a pre-release with a post-release, and the definition has no order of
+//! attempts.
+//!
+//! White space around a version is what Rust's `is_ascii_whitespace` accepts: tab, line feed, form feed,
+//! carriage return and space. PEP 440's own pattern accepts a vertical tab too. It may also follow a star:
+//! the pattern `3.8.* ` is read as the version `3.8 ` is.
 
 ghost use Rattle.std.specs.Prelude.{◌≡◌, IfOk};
 ghost use Rattle.pep440_text.specs.Record.{segment_of};
@@ -17,7 +28,7 @@ pub mod suffixes;
 
 pub use reading::{read_pattern, read_version};
 
-/// What comes before a release (PEP 440, "Pre-releases"). Prints as `a`, `b` or `rc`.
+/// The kind of a pre-release (PEP 440, "Pre-releases"). Prints as `a`, `b` or `rc`.
 #[derive(Clone, Copy, Debug, PartialEq, Eq, PartialOrd, Ord, Hash)]
 pub enum PrereleaseKind {
     Alpha,
@@ -40,7 +51,7 @@ pub enum LocalSegment {
 }
 
 impl LocalSegment {
-    /// A copy, in memory of its own.
+    /// Returns a copy, in memory of its own.
     pub fn try_clone(&self, alloc: Global) -> Result<LocalSegment, AllocError>
         ensures { IfOk result (λ copy. segment_of copy ≡ segment_of self.now) }
     {
@@ -53,7 +64,7 @@ impl LocalSegment {
     }
 }
 
-/// What a text of a version says.
+/// The parts of a version's text.
 #[derive(Drop)]
 pub struct VersionParts {
     pub epoch: u64,
@@ -64,10 +75,10 @@ pub struct VersionParts {
     pub local: Vec<LocalSegment>,
 }
 
-/// What is wrong with a text that is no version.
+/// What is wrong with a text that is not a version.
 #[derive(Clone, Copy, Debug, PartialEq, Eq, PartialOrd, Ord, Hash)]
 pub enum FaultKind {
-    /// `.*` stands behind the release, where a version is wanted and no pattern.
+    /// `.*` follows the release, where a version is wanted and not a pattern.
     Wildcard,
     /// A number exceeds `u64::MAX`.
     NumberTooBig,
@@ -83,11 +94,11 @@ pub enum FaultKind {
 #[derive(Clone, Copy, Debug, PartialEq, Eq, PartialOrd, Ord, Hash)]
 pub struct TextFault {
     pub kind: FaultKind,
-    /// How many bytes of the text are left there.
+    /// The number of bytes from the fault to the end of the text.
     pub left: usize,
 }
 
-/// Why no version was read.
+/// Why a text could not be read as a version.
 #[derive(Clone, Copy, Debug, PartialEq, Eq, PartialOrd, Ord, Hash)]
 pub enum ReadError {
     /// Memory ran out while reading.

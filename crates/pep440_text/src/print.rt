@@ -1,4 +1,4 @@
-//! The prints of the parts of a version.
+//! How the parts of a version print.
 
 ghost use Rattle.std.specs.Prelude.{Some};
 ghost use Rattle.pep440_text.specs.Record.{segment_of};

@@ -1,4 +1,4 @@
-//! Reading the text of a version, from its front on.
+//! Reading the text of a version, from left to right.
 
 ghost use Rattle.std.specs.Prelude.{◌≡◌, ◌<◌, length, Some, Err, IfOk};
 ghost use Rattle.pep440_text.specs.declared.ReadError.TheVariants as errors;
@@ -22,7 +22,7 @@ struct Head {
     release: Vec<u64>,
 }
 
-/// The fault that stands where these bytes are left.
+/// Returns the fault at which these bytes are left.
 fn fault(kind: FaultKind, bytes: &[u8]) -> TextFault
     ensures { result ≡ record { kind = kind; left = length bytes.now } }
 {
@@ -32,14 +32,14 @@ fn fault(kind: FaultKind, bytes: &[u8]) -> TextFault
     }
 }
 
-/// What follows the white space at the front.
+/// Returns the bytes after the white space at the front.
 fn skip_white(bytes: &[u8]) -> &[u8]
     ensures { result.now ≡ after_white bytes.now }
 {
     bytes.trim_ascii_start()
 }
 
-/// What follows a `v`, where one stands at the front.
+/// Returns the bytes after a `v`, where one is at the front.
 fn skip_v(bytes: &[u8]) -> &[u8]
     ensures { result.now ≡ after_v bytes.now }
 {
@@ -55,7 +55,7 @@ fn skip_v(bytes: &[u8]) -> &[u8]
     }
 }
 
-/// White space, `v`, the epoch and the release, and what follows them.
+/// Reads white space, `v`, the epoch and the release, and returns these two with the bytes after them.
 #[tactic(auto, unfolding(crate::specs::Reading::head_at))]
 fn read_head(alloc: Global, bytes: &[u8]) -> Result<(Head, &[u8]), ReadError>
     ensures head { Answers (λ found. ((found.0.epoch, found.0.release.items), found.1.now)) told_read result
@@ -72,7 +72,7 @@ fn read_head(alloc: Global, bytes: &[u8]) -> Result<(Head, &[u8]), ReadError>
     Ok((head, rest))
 }
 
-/// Refuses what is left, unless it is white space.
+/// Reports a fault where anything but white space is left.
 #[tactic(auto, unfolding(crate::specs::Reading::end_at))]
 fn end(bytes: &[u8]) -> Result<(), TextFault>
     ensures { Answers (λ end. end) Some result (end_at bytes.now) }
@@ -84,7 +84,7 @@ fn end(bytes: &[u8]) -> Result<(), TextFault>
     Err(fault(FaultKind::UnexpectedEnd, rest))
 }
 
-/// The version of an epoch and a release alone.
+/// Returns the parts of a version with an epoch and a release alone.
 fn plain(alloc: Global, head: Head) -> VersionParts
     ensures parts { said result ≡ epoch_record head.epoch head.release.items }
     ensures release { result.release.items ≡ head.release.items }
@@ -99,8 +99,8 @@ fn plain(alloc: Global, head: Head) -> VersionParts
     }
 }
 
-/// The version of an epoch, a release and the parts behind them. Most versions have none, so that is looked
-/// at first.
+/// Reads the parts after an epoch and a release, and returns them all. Most versions have none, so that is
+/// tested first.
 #[tactic(auto, using(crate::proofs::White::nothing_behind), unfolding(crate::specs::Reading::suffixed))]
 fn suffixed(alloc: Global, head: Head, bytes: &[u8]) -> Result<VersionParts, ReadError>
     ensures parts { Answers said told_read result (suffixed (head.epoch, head.release.items) bytes.now) }
@@ -124,7 +124,7 @@ fn suffixed(alloc: Global, head: Head, bytes: &[u8]) -> Result<VersionParts, Rea
     })
 }
 
-/// Whether this is `.*` and white space alone.
+/// Returns whether the bytes are `.*` and white space alone.
 #[tactic(auto, using(crate::proofs::White::is_white_alone))]
 fn is_star(bytes: &[u8]) -> bool
     ensures { result ≡ is_star bytes.now }
@@ -138,11 +138,13 @@ fn is_star(bytes: &[u8]) -> bool
     }
 }
 
-/// Reads a version: its parts in their order, each that can be taken, in either case and with white space
+/// Reads a version: its parts in their order, those that are there, in either case and with white space
 /// around them.
 ///
-/// Goes through the text a fixed number of times, and takes memory for release and local part. The error
-/// names the first fault from the left.
+/// Goes through the text a fixed number of times, and takes memory for release and local part.
+///
+/// # Errors
+/// `Fault` with the first fault from the left; `Memory` where memory ran out.
 #[tactic(auto, unfolding(crate::specs::Reading::read_version))]
 pub fn read_version(alloc: Global, text: &[u8]) -> Result<VersionParts, ReadError>
     ensures parts { Answers said told_read result (read_version text.now) }
@@ -156,9 +158,11 @@ pub fn read_version(alloc: Global, text: &[u8]) -> Result<VersionParts, ReadErro
     suffixed(alloc, head, rest)
 }
 
-/// Reads a version, or an epoch and a release with `.*` behind them, of which the truth is told.
+/// Reads a version, or an epoch and a release followed by `.*`; returns with it whether there was a `.*`.
+/// Costs are those of `read_version`.
 ///
-/// Costs and faults are those of `read_version`.
+/// # Errors
+/// Those of `read_version`, but for `Wildcard`.
 #[tactic(auto, unfolding(crate::specs::Reading::read_pattern))]
 pub fn read_pattern(alloc: Global, text: &[u8]) -> Result<(VersionParts, bool), ReadError>
     ensures parts { Answers (λ found. record { version = said found.0; wildcard = found.1 }) told_read result

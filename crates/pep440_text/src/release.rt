@@ -1,4 +1,8 @@
 //! The release numbers of versions.
+//!
+//! A list of candidates is mostly versions, nearly all of which have at most three release numbers. The
+//! smallest heap block for two or three numbers is 32 bytes, so `Release` has a variant for each of these
+//! lengths and one for longer releases: such a version is 112 bytes and allocates nothing.
 
 ghost use Rattle.std.specs.Prelude.{◌≡◌, ◌<◌, length, take, IfOk, IfSome};
 ghost use Rattle.std.specs.Option.{option_map};
@@ -6,7 +10,7 @@ ghost use Rattle.pep440_text.specs.Releases.{numbers_of, raised, last_raised};
 
 use std::alloc::{AllocError, Global};
 
-/// Release numbers: up to three in their place, as most releases have, and more in memory of their own.
+/// Release numbers: up to three inline, as most releases have, and more in memory of their own.
 #[derive(Drop)]
 pub enum Release {
     One([u64; 1]),
@@ -15,7 +19,7 @@ pub enum Release {
     More(Vec<u64>),
 }
 
-/// The numbers in their place, where they are one, two or three.
+/// Returns the numbers inline, where they are one, two or three.
 fn few(numbers: &[u64]) -> Option<Release>
     ensures { IfSome result (λ release. numbers_of release ≡ numbers.now) }
 {
@@ -28,7 +32,7 @@ fn few(numbers: &[u64]) -> Option<Release>
 }
 
 impl Release {
-    /// These numbers. Takes memory for more than three.
+    /// Returns a release of these numbers. Takes memory for more than three.
     pub fn from_slice(alloc: Global, numbers: &[u64]) -> Result<Release, AllocError>
         ensures { IfOk result (λ release. numbers_of release ≡ numbers.now) }
     {
@@ -38,7 +42,7 @@ impl Release {
         }
     }
 
-    /// These numbers, whose memory is let go of where they are few.
+    /// Returns a release of these numbers, whose memory is freed where they are at most three.
     pub fn from_vec(numbers: Vec<u64>) -> Release
         ensures { numbers_of result ≡ numbers.items }
     {
@@ -48,6 +52,7 @@ impl Release {
         }
     }
 
+    /// Returns the release numbers.
     pub fn numbers(&self) -> &[u64]
         ensures { result.now ≡ numbers_of self.now }
     {
@@ -59,7 +64,7 @@ impl Release {
         }
     }
 
-    /// The first of the numbers, so many or all.
+    /// Returns the release with its first `count` numbers, or all of them where there are fewer.
     pub fn truncated(self, count: usize) -> Release
         requires { 0 < count }
         ensures { numbers_of result ≡ take count (numbers_of self) }
@@ -88,7 +93,7 @@ impl Release {
         }
     }
 
-    /// With the last number raised by one, where 64 bits hold that.
+    /// Returns the release with its last number raised by one; `None` where that exceeds 64 bits.
     pub fn with_last_raised(self) -> Option<Release>
         ensures raised { option_map numbers_of result ≡ last_raised (numbers_of self) }
         ensures some { IfSome result (λ release. 0 < length (numbers_of release)) }
@@ -111,14 +116,14 @@ impl Release {
     }
 }
 
-/// One more, where 64 bits hold it.
+/// Returns the number plus one; `None` where that exceeds 64 bits.
 pub fn raised(number: u64) -> Option<u64>
     ensures { result ≡ raised number }
 {
     number.checked_add(1)
 }
 
-/// The numbers with the last raised by one, where 64 bits hold that.
+/// Returns the numbers with the last raised by one; `None` where that exceeds 64 bits.
 pub fn with_last_raised(mut numbers: Vec<u64>) -> Option<Vec<u64>>
     ensures raised { option_map (λ raised. raised.items) result ≡ last_raised numbers.items }
     ensures some { IfSome result (λ raised. 0 < length raised.items) }

@@ -1,4 +1,8 @@
 //! The suffixes of versions.
+//!
+//! The numbers of `pre`, `post`, `dev`, `min` and `max` are stored next to one another, with the flags of
+//! which are present after them all; an `Option` of each would take 16 bytes more for its tag. No suffix is
+//! on the heap, since a setter such as `with_post` cannot fail. Contracts see a `VersionRecord`.
 
 ghost use Rattle.std.specs.Prelude.{◌≡◌};
 ghost use Rattle.pep440_text.specs.Kept.{kept, no_suffixes};
@@ -6,10 +10,10 @@ ghost use Rattle.pep440_text.specs.Kept.{kept, no_suffixes};
 use crate::{Prerelease, PrereleaseKind};
 use std::marker::Model;
 
-/// A version's pre-release, post-release and developmental release, and its marks as a range's end.
+/// A version's pre-release, post-release and developmental release, and its marks as the end of a range.
 ///
-/// The numbers lie side by side, and whether each is there is told behind them all: five `Option`s would take
-/// 40 bytes more, and a list of candidates is mostly versions.
+/// The numbers are kept together and their presence as flags: five `Option`s would take 40 bytes more, and
+/// a list of candidates is mostly versions.
 #[derive(Drop)]
 pub struct Suffixes {
     pre_number: u64,
@@ -39,7 +43,7 @@ impl Model for Suffixes {
 }
 
 impl Suffixes {
-    /// None of them.
+    /// Returns the record of no suffixes and no marks.
     pub fn absent() -> Suffixes
         ensures { result ≡ no_suffixes }
     {
@@ -57,7 +61,7 @@ impl Suffixes {
         }
     }
 
-    /// These suffixes, and no marks.
+    /// Returns a record of these suffixes, without marks.
     pub fn new(pre: Option<Prerelease>, post: Option<u64>, dev: Option<u64>) -> Suffixes
         ensures { result ≡ record no_suffixes { pre = pre; post = post; dev = dev } }
     {
@@ -68,6 +72,7 @@ impl Suffixes {
         suffixes
     }
 
+    /// Returns a copy.
     pub fn copied(&self) -> Suffixes
         ensures { result ≡ self.now }
     {
@@ -85,6 +90,7 @@ impl Suffixes {
         }
     }
 
+    /// Returns the pre-release, where there is one.
     pub fn pre(&self) -> Option<Prerelease>
         ensures { result ≡ self.now.pre }
     {
@@ -97,30 +103,35 @@ impl Suffixes {
         }
     }
 
+    /// Returns the number of the post-release, where there is one.
     pub fn post(&self) -> Option<u64>
         ensures { result ≡ self.now.post }
     {
         number_where(self.has_post, self.post_number)
     }
 
+    /// Returns the number of the developmental release, where there is one.
     pub fn dev(&self) -> Option<u64>
         ensures { result ≡ self.now.dev }
     {
         number_where(self.has_dev, self.dev_number)
     }
 
+    /// Returns the mark as the lower end of a range, where there is one.
     pub fn least(&self) -> Option<u64>
         ensures { result ≡ self.now.least }
     {
         number_where(self.has_least, self.least_number)
     }
 
+    /// Returns the mark as the upper end of a range, where there is one.
     pub fn most(&self) -> Option<u64>
         ensures { result ≡ self.now.most }
     {
         number_where(self.has_most, self.most_number)
     }
 
+    /// Overwrites the pre-release.
     pub fn set_pre(&mut self, pre: Option<Prerelease>)
         ensures { self.new ≡ record self.old { pre = pre } }
     {
@@ -133,6 +144,7 @@ impl Suffixes {
         }
     }
 
+    /// Overwrites the number of the post-release.
     pub fn set_post(&mut self, post: Option<u64>)
         ensures { self.new ≡ record self.old { post = post } }
     {
@@ -140,6 +152,7 @@ impl Suffixes {
         self.post_number = post.unwrap_or(0);
     }
 
+    /// Overwrites the number of the developmental release.
     pub fn set_dev(&mut self, dev: Option<u64>)
         ensures { self.new ≡ record self.old { dev = dev } }
     {
@@ -147,6 +160,7 @@ impl Suffixes {
         self.dev_number = dev.unwrap_or(0);
     }
 
+    /// Overwrites the mark as the lower end of a range.
     pub fn set_least(&mut self, least: Option<u64>)
         ensures { self.new ≡ record self.old { least = least } }
     {
@@ -154,6 +168,7 @@ impl Suffixes {
         self.least_number = least.unwrap_or(0);
     }
 
+    /// Overwrites the mark as the upper end of a range.
     pub fn set_most(&mut self, most: Option<u64>)
         ensures { self.new ≡ record self.old { most = most } }
     {
@@ -162,7 +177,7 @@ impl Suffixes {
     }
 }
 
-/// The number, where it is there.
+/// Returns the number, where it is there.
 fn number_where(there: bool, number: u64) -> Option<u64>
     ensures { result ≡ kept there number }
 {

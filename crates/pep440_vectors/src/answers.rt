@@ -1,4 +1,4 @@
-//! The answers. What is told of a question is written behind one text, so that no function below owns a text.
+//! The answers. Each is appended to one text, so that no function below owns a text.
 
 use crate::{built, lists, patterns, releases, sets, specifiers, values, versions};
 use serde_json::{Error, Value};
@@ -10,10 +10,10 @@ use std::hash::{DefaultHasher, Hash, Hasher};
 /// Whether there was memory for an answer.
 pub type Told = Result<(), AllocError>;
 
-/// What is answered where a text is none of the kind.
+/// The answer where a text is invalid.
 pub const REFUSED: &str = "refused";
 
-/// The answer to a question; `refused` where a text can't be read, `no question` for another form.
+/// Returns the answer to a question: `refused` where a text can't be read, `no question` for another form.
 pub fn answer(alloc: Global, question: &str) -> Result<String, AllocError> {
     let mut answer = String::new(alloc);
     told(alloc, &mut answer, question)?;
@@ -34,7 +34,7 @@ fn told(alloc: Global, answer: &mut String, question: &str) -> Told {
     }
 }
 
-/// What is answered where a text is no JSON.
+/// Appends the answer where a text is not JSON.
 pub fn no_json(answer: &mut String, words: &str, error: &Error) -> Told {
     if error.is_memory() {
         Err(AllocError)
@@ -43,7 +43,7 @@ pub fn no_json(answer: &mut String, words: &str, error: &Error) -> Told {
     }
 }
 
-/// The text at a place of a list, empty where there is none.
+/// Returns the text at a place of a list; empty where there is none.
 fn text_at(question: &Value, place: usize) -> &str {
     question.get(place).and_then(Value::as_str).unwrap_or("")
 }
@@ -67,7 +67,7 @@ fn of_texts(
     }
 }
 
-/// The answer to a question on what is neither a version nor a specifier nor a list.
+/// Answers a question on what is neither a version nor a specifier nor a list.
 fn of_others(
     alloc: Global,
     answer: &mut String,
@@ -98,7 +98,7 @@ fn of_others(
     }
 }
 
-/// The print of a value.
+/// Appends the print of a value.
 pub fn shown<T: Display>(answer: &mut String, value: &T) -> Told {
     write!(answer, "{value}")
 }

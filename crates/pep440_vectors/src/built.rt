@@ -11,7 +11,7 @@ use pep440_version::{Version, VersionPattern};
 use std::alloc::{AllocError, Global};
 use std::fmt::Write;
 
-/// The specifier of an operator and a text, which is that of a pattern, or else of a version.
+/// Answers with the specifier of an operator and a text, which is a pattern's, or else a version's.
 pub fn of_texts(
     alloc: Global,
     answer: &mut String,

@@ -11,7 +11,7 @@ use pep440_version::Version;
 use std::alloc::{AllocError, Global};
 use std::fmt::Write;
 
-/// What is asked of a list and another text.
+/// The questions on a list and another text.
 pub const KINDS: [&str; 11] = [
     "list",
     "list prints",
@@ -26,7 +26,7 @@ pub const KINDS: [&str; 11] = [
     "lists",
 ];
 
-/// The answer to a question on a list's text, and perhaps another one.
+/// Answers a question on a list's text, and perhaps another one.
 pub fn of_text(alloc: Global, answer: &mut String, kind: &str, text: &str, other: &str) -> Told {
     match VersionSpecifiers::from_str(alloc, text) {
         Ok(list) => told(alloc, answer, kind, &list, other),
@@ -34,7 +34,8 @@ pub fn of_text(alloc: Global, answer: &mut String, kind: &str, text: &str, other
     }
 }
 
-/// What is answered where a text is no list; for a picture its whole print, behind the line that it keeps.
+/// Answers where a text is not a list; for a picture with the error's whole print, after the line that it
+/// keeps.
 pub fn unread(answer: &mut String, kind: &str, error: &VersionSpecifiersParseError) -> Told {
     match error {
         VersionSpecifiersParseError::Memory => Err(AllocError),
@@ -49,7 +50,7 @@ pub fn unread(answer: &mut String, kind: &str, error: &VersionSpecifiersParseErr
     }
 }
 
-/// The first piece between commas that is none, its place in bytes, and what is wrong with it.
+/// Appends the first piece between commas that is invalid, its place in bytes, and what is wrong with it.
 fn refused_piece(answer: &mut String, refused: &RefusedPiece) -> Told {
     let (start, end) = (refused.start(), refused.end());
     let (piece, line, fault) = (refused.piece(), refused.line(), refused.error());
@@ -81,8 +82,8 @@ fn told(
     }
 }
 
-/// How many members a list's copy has, its prints: for programmers, with bare commas, and as a JSON value;
-/// and whether it is equal to the list.
+/// Appends the number of members of a list's copy, its prints (for programmers, with bare commas, and as a
+/// JSON value), and whether it is equal to the list.
 fn prints(
     alloc: Global,
     answer: &mut String,
@@ -109,7 +110,7 @@ fn with_text(
     }
 }
 
-/// Whether a list, or its set, takes a version.
+/// Answers whether a list, or its set, accepts a version.
 fn takes(
     alloc: Global,
     answer: &mut String,
@@ -130,7 +131,8 @@ fn takes(
     }
 }
 
-/// Whether a counted list takes a version, asked twice, and how many of its members were asked by then.
+/// Answers whether a counted list accepts a version, tested twice, and how many members were tested by
+/// then.
 fn counted(
     alloc: Global,
     answer: &mut String,
@@ -152,14 +154,14 @@ fn beside(alloc: Global, answer: &mut String, left: &VersionSpecifiers, right: &
     }
 }
 
-/// The order of two lists, both ways.
+/// Answers with the order of two lists, both ways.
 fn compared(answer: &mut String, left: &VersionSpecifiers, right: &VersionSpecifiers) -> Told {
     let order = sign(left.cmp(right));
     let turned = right.partial_cmp(left);
     write!(answer, "{order}, turned {turned:?}")
 }
 
-/// The list of three specifiers, in the order given.
+/// Answers with the list of three specifiers, in the order given.
 pub fn of_members(alloc: Global, answer: &mut String, texts: [&str; 3]) -> Told {
     let mut members = Vec::new(alloc);
     for text in texts {
@@ -168,7 +170,7 @@ pub fn of_members(alloc: Global, answer: &mut String, texts: [&str; 3]) -> Told 
     listed(alloc, answer, members)
 }
 
-/// Takes a specifier among the members; a text that is none is left out.
+/// Appends a specifier to the members; an invalid text is left out.
 fn push_member(alloc: Global, members: &mut Vec<VersionSpecifier>, text: &str) -> Told {
     match VersionSpecifier::from_str(alloc, text) {
         Ok(member) => Ok(members.push(member)?),
@@ -184,13 +186,13 @@ fn listed(alloc: Global, answer: &mut String, members: Vec<VersionSpecifier>) ->
     shown(answer, &VersionSpecifiers::from_specifiers(alloc, members)?)
 }
 
-/// The list of one specifier, and how many members it has, lent and taken.
+/// Answers with the list of one specifier, and its number of members, borrowed and owned.
 pub fn of_member(answer: &mut String, list: VersionSpecifiers) -> Told {
     write!(answer, "{list}, {}, ", list.iter().count())?;
     write!(answer, "{}", list.into_iter().len())
 }
 
-/// The empty list: whether it takes a version, and its print.
+/// Answers for the empty list: whether it accepts a version, and its print.
 pub fn empty(
     alloc: Global,
     answer: &mut String,

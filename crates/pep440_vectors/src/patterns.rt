@@ -5,7 +5,7 @@ use pep440_version::{Version, VersionPattern, VersionPatternParseError};
 use std::alloc::{AllocError, Global};
 use std::fmt::Write;
 
-/// The answer to a question on a pattern's text, and perhaps another one.
+/// Answers a question on a pattern's text, and perhaps another one.
 pub fn of_text(alloc: Global, answer: &mut String, kind: &str, text: &str, other: &str) -> Told {
     match VersionPattern::from_str(alloc, text) {
         Ok(pattern) => told(alloc, answer, kind, &pattern, other),
@@ -31,7 +31,7 @@ fn told(
     }
 }
 
-/// What is answered where a text is no pattern.
+/// Answers where a text is not a pattern.
 pub fn unread(answer: &mut String, kind: &str, error: &VersionPatternParseError) -> Told {
     match error {
         VersionPatternParseError::Memory => Err(AllocError),
@@ -43,7 +43,7 @@ pub fn unread(answer: &mut String, kind: &str, error: &VersionPatternParseError)
     }
 }
 
-/// A pattern's copy for programmers, and whether it is equal and has one hash.
+/// Answers with a pattern's copy for programmers, and whether it is equal and hashes alike.
 fn copied(answer: &mut String, copy: &VersionPattern, pattern: &VersionPattern) -> Told {
     write!(answer, "{copy:?}, ")?;
     same(answer, copy, pattern)
@@ -56,14 +56,14 @@ fn beside(alloc: Global, answer: &mut String, left: &VersionPattern, right: &str
     }
 }
 
-/// Whether two patterns are equal and have one hash.
+/// Answers whether two patterns are equal and hash alike.
 fn same(answer: &mut String, left: &VersionPattern, right: &VersionPattern) -> Told {
     let is_equal = left == right;
     let is_one = hash_of(left) == hash_of(right);
     write!(answer, "equal {is_equal}, one hash {is_one}")
 }
 
-/// `1.2` as a pattern with a star, then without one.
+/// Answers with `1.2` as a pattern with a star, then without one.
 pub fn made(alloc: Global, answer: &mut String) -> Told {
     let star = VersionPattern::wildcard(Version::new(alloc, &[1, 2])?);
     let has_star = star.is_wildcard();

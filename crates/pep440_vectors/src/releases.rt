@@ -11,7 +11,7 @@ use std::alloc::{AllocError, Global};
 use std::fmt::Write;
 use std::ops::Bound;
 
-/// What is said of a bound as a lower one, then as an upper one.
+/// Answers with the specifier of a bound as a lower one, then as an upper one.
 pub fn bounds(alloc: Global, answer: &mut String, kind: &str, version: &Version) -> Told {
     let bound = match kind {
         "included" => Bound::Included(version),
@@ -23,7 +23,7 @@ pub fn bounds(alloc: Global, answer: &mut String, kind: &str, version: &Version)
     push_bound(answer, VersionSpecifier::from_upper_bound(alloc, bound))
 }
 
-/// The print of what a bound gives.
+/// Appends the print of a bound's specifier.
 fn push_bound(answer: &mut String, found: Result<Option<VersionSpecifier>, BoundError>) -> Told {
     match found {
         Ok(Some(specifier)) => shown(answer, &specifier),
@@ -33,7 +33,7 @@ fn push_bound(answer: &mut String, found: Result<Option<VersionSpecifier>, Bound
     }
 }
 
-/// The answer to a question on the releases between two versions, all but those, or all between but one.
+/// Answers a question on the releases between two versions, all but those, or all between but one.
 pub fn of_texts(
     alloc: Global,
     answer: &mut String,
@@ -48,7 +48,7 @@ pub fn of_texts(
     }
 }
 
-/// The release of a version's text, none where it is none.
+/// Returns the release of a version's text; `None` where the text is invalid.
 fn release(alloc: Global, text: &str) -> Result<Option<Version>, AllocError>
     ensures { IfOk result (λ found. IfSome found IsReleaseVersion) }
 {
@@ -80,8 +80,8 @@ fn beside(
     }
 }
 
-/// The specifiers of all releases from a version to below or up to another one; or of all but those; or of
-/// those up to below a third one, but for the second.
+/// Answers with the specifiers of all releases from a version to below or up to another one; or of all but
+/// those; or of those up to below a third one, but for the second.
 fn between(
     alloc: Global,
     answer: &mut String,
@@ -121,7 +121,7 @@ fn from_bounds(alloc: Global, answer: &mut String, lower: &Version, upper: Bound
     printed(answer, &made)
 }
 
-/// The prints, with a blank behind each.
+/// Appends the prints, with a blank after each.
 fn printed(answer: &mut String, specifiers: &[VersionSpecifier]) -> Told {
     for specifier in specifiers {
         write!(answer, "{specifier} ")?;
@@ -129,7 +129,7 @@ fn printed(answer: &mut String, specifiers: &[VersionSpecifier]) -> Told {
     Ok(())
 }
 
-/// All releases but those between two bounds.
+/// Answers with all releases but those between two bounds.
 fn without(
     alloc: Global,
     answer: &mut String,
@@ -160,7 +160,7 @@ fn around(
     }
 }
 
-/// The list of a lower version up to below an upper one, but for one between.
+/// Answers with the list of a lower version up to below an upper one, but for one between.
 fn around_one<'a>(
     alloc: Global,
     answer: &mut String,
@@ -180,7 +180,7 @@ fn around_one<'a>(
     shown(answer, &made)
 }
 
-/// The list of no intervals.
+/// Answers with the list of no intervals.
 pub fn no_intervals(alloc: Global, answer: &mut String) -> Told {
     let list = VersionSpecifiers::from_release_only_bounds(alloc, &[])?;
     let is_empty = list.is_empty();

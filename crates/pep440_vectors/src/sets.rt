@@ -1,4 +1,4 @@
-//! Answers on the sets of versions that specifiers and lists take.
+//! Answers on the sets of versions that specifiers and lists accept.
 
 use crate::answers::{REFUSED, Told};
 use crate::versions;
@@ -12,7 +12,7 @@ use version_ranges::Ranges;
 
 type Range = Ranges<Version>;
 
-/// What is asked of a set, or whether it holds a version.
+/// Answers a question on a set, or whether it contains a version.
 pub fn of_range(
     answer: &mut String,
     kind: &str,
@@ -25,7 +25,7 @@ pub fn of_range(
     }
 }
 
-/// What is answered where a number can't be raised.
+/// Answers where a number can't be raised.
 fn at_end(answer: &mut String, kind: &str, error: &RangeError) -> Told {
     match error {
         RangeError::Memory => Err(AllocError),
@@ -45,7 +45,7 @@ fn told(answer: &mut String, kind: &str, range: &Range, candidate: Option<&Versi
     }
 }
 
-/// The intervals, with brackets for bounds that are held, as `[1.2.dev0, 1.3.dev0)`.
+/// Appends the intervals, with square brackets for included bounds, as `[1.2.dev0, 1.3.dev0)`.
 fn intervals(answer: &mut String, range: &Range) -> Told {
     for (lower, upper) in range.iter() {
         push_lower(answer, lower)?;
@@ -70,8 +70,8 @@ fn push_upper(answer: &mut String, upper: Bound<&Version>) -> Told {
     }
 }
 
-/// What no print shows of the version below which a set ends: its least bound, beside its development
-/// number.
+/// Appends what no print shows of the version below which a set ends: its `min` mark, with its
+/// developmental number.
 fn end(answer: &mut String, range: &Range) -> Told {
     match range.bounding_range() {
         Some((_, Bound::Excluded(end))) => {
@@ -83,7 +83,7 @@ fn end(answer: &mut String, range: &Range) -> Told {
     }
 }
 
-/// Whether the union or the intersection of two lists' sets holds a version.
+/// Answers whether the union or the intersection of two lists' sets contains a version.
 pub fn of_two(
     alloc: Global,
     answer: &mut String,
@@ -98,7 +98,8 @@ pub fn of_two(
     }
 }
 
-/// The set of versions that a list takes; a text that isn't a list is refused as a number at its end is.
+/// Returns the set of versions that a list accepts; a text that isn't a list is refused as a number at its
+/// end is.
 fn range(alloc: Global, text: &str) -> Result<Range, RangeError> {
     match VersionSpecifiers::from_str(alloc, text) {
         Ok(list) => specifiers_to_range(alloc, &list),

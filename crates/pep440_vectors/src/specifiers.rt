@@ -12,7 +12,7 @@ use pep440_version::{Version, VersionParseError, VersionPatternParseError};
 use std::alloc::{AllocError, Global};
 use std::fmt::Write;
 
-/// What is asked of a specifier and another text.
+/// The questions on a specifier and another text.
 pub const KINDS: [&str; 9] = [
     "specifier",
     "specifier copy",
@@ -25,7 +25,7 @@ pub const KINDS: [&str; 9] = [
     "specifiers",
 ];
 
-/// The answer to a question on a specifier's text, and perhaps another one.
+/// Answers a question on a specifier's text, and perhaps another one.
 pub fn of_text(alloc: Global, answer: &mut String, kind: &str, text: &str, other: &str) -> Told {
     match VersionSpecifier::from_str(alloc, text) {
         Ok(specifier) => told(alloc, answer, kind, &specifier, other),
@@ -33,7 +33,7 @@ pub fn of_text(alloc: Global, answer: &mut String, kind: &str, text: &str, other
     }
 }
 
-/// What is answered where a text is no specifier.
+/// Answers where a text is not a specifier.
 pub fn unread(answer: &mut String, kind: &str, error: &VersionSpecifierParseError) -> Told {
     match error {
         VersionSpecifierParseError::Memory => Err(AllocError),
@@ -72,12 +72,12 @@ fn told(
     }
 }
 
-/// A specifier's print, and that for programmers.
+/// Appends a specifier's print, and that for programmers.
 fn prints(answer: &mut String, specifier: &VersionSpecifier) -> Told {
     write!(answer, "{specifier}, {specifier:?}")
 }
 
-/// A specifier's parts, and what holds of it.
+/// Appends a specifier's parts and properties.
 fn parts(
     alloc: Global,
     answer: &mut String,
@@ -94,7 +94,7 @@ fn parts(
     )
 }
 
-/// Whether a specifier takes a version.
+/// Answers whether a specifier accepts a version.
 fn takes(
     alloc: Global,
     answer: &mut String,
@@ -114,7 +114,7 @@ fn beside(alloc: Global, answer: &mut String, left: &VersionSpecifier, right: &s
     }
 }
 
-/// The order of two specifiers, and whether they are equal and have one hash.
+/// Answers with the order of two specifiers, and whether they are equal and hash alike.
 fn compared(answer: &mut String, left: &VersionSpecifier, right: &VersionSpecifier) -> Told {
     let order = sign(left.cmp(right));
     let is_equal = left == right;
@@ -122,7 +122,7 @@ fn compared(answer: &mut String, left: &VersionSpecifier, right: &VersionSpecifi
     write!(answer, "{order}, equal {is_equal}, one hash {is_one}")
 }
 
-/// What an error says of want of memory.
+/// Appends the print of an error of memory.
 pub fn want_of_memory(answer: &mut String, what: &str) -> Told {
     match what {
         "version" => shown(answer, &VersionParseError::Memory),
@@ -139,7 +139,7 @@ pub fn want_of_memory(answer: &mut String, what: &str) -> Told {
     }
 }
 
-/// Each operator: its print, its negation, and what its print is read as.
+/// Answers for each operator: its print, its negation, and what its print is read as.
 pub fn operators(alloc: Global, answer: &mut String) -> Told {
     for operator in [
         Operator::Equal,
@@ -165,7 +165,7 @@ fn push_operator(alloc: Global, answer: &mut String, operator: Operator) -> Told
     answer.push_str("; ")
 }
 
-/// Whether an operator's print is read as the operator.
+/// Returns whether an operator's print is read as the operator.
 fn is_read_again(alloc: Global, operator: Operator) -> Result<bool, AllocError> {
     let text = operator.to_string(alloc)?;
     match Operator::from_str(alloc, &text) {
@@ -175,7 +175,7 @@ fn is_read_again(alloc: Global, operator: Operator) -> Result<bool, AllocError> 
     }
 }
 
-/// The operator of a text.
+/// Answers with the operator of a text.
 pub fn operator(alloc: Global, answer: &mut String, text: &str) -> Told {
     match Operator::from_str(alloc, text) {
         Ok(operator) => write!(answer, "{operator:?}"),
@@ -184,7 +184,7 @@ pub fn operator(alloc: Global, answer: &mut String, text: &str) -> Told {
     }
 }
 
-/// The specifiers of `1` by each operator that has a call of its own.
+/// Answers with the specifiers of `1` by each operator that has a constructor of its own.
 pub fn made_of_operators(alloc: Global, answer: &mut String) -> Told {
     let one = [1];
     push_made(

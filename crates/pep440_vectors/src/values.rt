@@ -8,7 +8,7 @@ use pep440_version::{FromValueError, Version};
 use serde_json::Value;
 use std::alloc::{AllocError, Global};
 
-/// The answer to a question on the text of a JSON value.
+/// Answers a question on the text of a JSON value.
 pub fn of_text(alloc: Global, answer: &mut String, kind: &str, text: &str) -> Told {
     match Value::from_str(alloc, text) {
         Ok(value) => told(alloc, answer, kind, &value),
@@ -24,7 +24,7 @@ fn told(alloc: Global, answer: &mut String, kind: &str, value: &Value) -> Told {
     }
 }
 
-/// The version that a JSON value is, and its value.
+/// Answers with the version that a JSON value is, and its value.
 fn version(alloc: Global, answer: &mut String, value: &Value) -> Told {
     match Version::from_value(alloc, value) {
         Ok(version) => again(answer, version.to_value(alloc)),
@@ -33,7 +33,7 @@ fn version(alloc: Global, answer: &mut String, value: &Value) -> Told {
     }
 }
 
-/// The specifier that a JSON value is, and its value.
+/// Answers with the specifier that a JSON value is, and its value.
 fn specifier(alloc: Global, answer: &mut String, value: &Value) -> Told {
     match VersionSpecifier::from_value(alloc, value) {
         Ok(specifier) => again(answer, specifier.to_value(alloc)),
@@ -46,7 +46,7 @@ fn again(answer: &mut String, value: Result<Value, AllocError>) -> Told {
     shown(answer, &value?)
 }
 
-/// The list that a JSON value is.
+/// Answers with the list that a JSON value is.
 fn list(alloc: Global, answer: &mut String, value: &Value) -> Told {
     match VersionSpecifiers::from_value(alloc, value) {
         Ok(list) => shown(answer, &list),

@@ -7,7 +7,7 @@ use pep440_version::{LocalSegment, Prerelease, PrereleaseKind, Version, VersionP
 use std::alloc::{AllocError, Global};
 use std::fmt::Write;
 
-/// What is asked of a version, or of two.
+/// The questions on a version, or on two.
 pub const KINDS: [&str; 18] = [
     "print",
     "version fault",
@@ -29,7 +29,7 @@ pub const KINDS: [&str; 18] = [
     "compare",
 ];
 
-/// The answer to a question on a version's text, and perhaps another one.
+/// Answers a question on a version's text, and perhaps another one.
 pub fn of_text(alloc: Global, answer: &mut String, kind: &str, text: &str, other: &str) -> Told {
     match Version::from_str(alloc, text) {
         Ok(version) => told(alloc, answer, kind, &version, other),
@@ -37,7 +37,7 @@ pub fn of_text(alloc: Global, answer: &mut String, kind: &str, text: &str, other
     }
 }
 
-/// What is answered where a text is no version.
+/// Answers where a text is not a version.
 pub fn unread(answer: &mut String, kind: &str, error: &VersionParseError) -> Told {
     match error {
         VersionParseError::Memory => Err(AllocError),
@@ -73,7 +73,7 @@ fn told(alloc: Global, answer: &mut String, kind: &str, version: &Version, other
     }
 }
 
-/// What is made of a version.
+/// Answers with a version that is made from another one.
 fn made(alloc: Global, answer: &mut String, kind: &str, version: &Version) -> Told {
     match kind {
         "copy" => shown(answer, &version.try_clone(alloc)?),
@@ -123,7 +123,7 @@ fn local(answer: &mut String, segments: &[LocalSegment]) -> Told {
     answer.push(']')
 }
 
-/// What holds of a version, and its print for programmers.
+/// Appends a version's properties, and its print for programmers.
 fn traits(answer: &mut String, version: &Version) -> Told {
     write!(answer, "{version:?}")?;
     for (name, holds) in [
@@ -142,13 +142,13 @@ fn traits(answer: &mut String, version: &Version) -> Told {
     Ok(())
 }
 
-/// A version, and its order to another one.
+/// Answers with a version, and its order to another one.
 fn ordered(answer: &mut String, left: &Version, right: &Version) -> Told {
     let order = sign(left.cmp(right));
     write!(answer, "{left} {order}")
 }
 
-/// An end's marks, its order to a version, and whether it is a release alone.
+/// Answers with an end's marks, its order to a version, and whether it is a release alone.
 fn marks(answer: &mut String, end: &Version, version: &Version) -> Told {
     let order = sign(end.cmp(version));
     let is_alone = end.is_only_release();
@@ -166,8 +166,8 @@ fn beside(alloc: Global, answer: &mut String, kind: &str, left: &Version, right:
     }
 }
 
-/// The order of versions; or with it the order of their public parts and of their releases, and whether they
-/// are equal and have one hash.
+/// Answers with the order of versions; or with the order of their public parts and of their releases too,
+/// and whether they are equal and hash alike.
 fn compared(answer: &mut String, kind: &str, left: &Version, right: &Version) -> Told {
     let order = sign(left.cmp(right));
     if kind == "order" {
@@ -181,7 +181,7 @@ fn compared(answer: &mut String, kind: &str, left: &Version, right: &Version) ->
     write!(answer, "equal {is_equal}, one hash {is_one}")
 }
 
-/// `ubuntu.7`
+/// Returns the segments of `ubuntu.7`.
 fn segments(alloc: Global) -> Result<Vec<LocalSegment>, AllocError> {
     let mut segments = Vec::new(alloc);
     segments.push(LocalSegment::String(String::from_str(alloc, "ubuntu")?))?;
@@ -189,7 +189,7 @@ fn segments(alloc: Global) -> Result<Vec<LocalSegment>, AllocError> {
     Ok(segments)
 }
 
-/// `9`, of which each part is set anew.
+/// Answers with `9`, of which each part is set anew.
 pub fn changed(alloc: Global, answer: &mut String) -> Told {
     let version = Version::new(alloc, &[9])?.with_release(alloc, &[1, 2])?;
     changed_parts(answer, version, segments(alloc)?)

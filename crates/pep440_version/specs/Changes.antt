@@ -1,4 +1,4 @@
--- What is asked of a version, and versions that stand to another one.
+-- Properties of a version, and versions that are made from another one.
 use Rattle.std.specs.Prelude.{ℕ, ◌||◌, Bool, true, false, List, [], ◌∷◌, Some, is_some}
 use Rattle.pep440_text.specs.declared.PrereleaseKind.TheVariants.{Alpha}
 use Rattle.pep440_text.specs.Record.{Segment, VersionRecord, release_record}

@@ -9,7 +9,7 @@ use Rattle.pep440_version.specs.declared.parse_error.VersionParseError.TheVarian
 use Rattle.pep440_version.specs.declared.parse_error.VersionPatternParseError.{VersionPatternParseError}
 use Rattle.pep440_version.specs.declared.parse_error.VersionPatternParseError.TheVariants as patterns
 
--- the print of why a text is no version
+-- the print of why a text is not a version
 abbrev pub version_error_text : VersionParseError → List ℕ
 version_error_text Memory = codes "out of memory"
 version_error_text Wildcard = codes "wildcards are not allowed in a version"
@@ -23,7 +23,7 @@ version_error_text (UnexpectedEnd version remaining) =
     codes "after parsing `" ++ string_bytes version ++ codes "`, "
     ++ codes "found `" ++ string_bytes remaining ++ codes "`, which is not part of a valid version"
 
--- the print of why a text is no pattern
+-- the print of why a text is not a pattern
 abbrev pub pattern_error_text : VersionPatternParseError → List ℕ
 pattern_error_text patterns.Memory = codes "out of memory"
 pattern_error_text (patterns.Version error) = version_error_text error

@@ -17,17 +17,17 @@ abbrev pub before_stripped : ℕ → List ℕ → List ℕ
 before_stripped number [] = if number == 0 then [] else number ∷ []
 before_stripped number (next ∷ numbers) = number ∷ next ∷ numbers
 
--- a release without the zeros at its end, so that `1` and `1.0` are one (PEP 440, "Final releases")
+-- a release without the zeros at its end, so that `1` and `1.0` are equal (PEP 440, "Final releases")
 abbrev pub stripped : List ℕ → List ℕ
 stripped [] = []
 stripped (number ∷ numbers) = before_stripped number (stripped numbers)
 
--- numbers beside zeros alone
+-- numbers compared with zeros alone
 abbrev pub beside_zeros : List ℕ → Ordering
 beside_zeros [] = Equal
 beside_zeros (number ∷ numbers) = ordering_then (nat_cmp number 0) (beside_zeros numbers)
 
--- zeros alone beside numbers
+-- zeros alone compared with numbers
 abbrev pub zeros_beside : List ℕ → Ordering
 zeros_beside [] = Equal
 zeros_beside (number ∷ numbers) = ordering_then (nat_cmp 0 number) (zeros_beside numbers)
@@ -53,7 +53,7 @@ suffix_class None None dev (Some number) = 6
 suffix_class None None (Some number) None = 1
 suffix_class None None None None = 5
 
--- a version with `least` stands below every suffix
+-- a version with `least` sorts below every suffix
 abbrev pub class_below : Option ℕ → ℕ → ℕ
 class_below (Some number) class = 0
 class_below None class = class
@@ -111,7 +111,7 @@ version_cmp = on key_of key_cmp
 abbrev pub version_eq : VersionRecord → VersionRecord → Bool
 version_eq = eq_by_cmp version_cmp
 
--- what a hash is fed of a component: its numbers, and a byte that ends them
+-- the input to a hash of a component: its numbers, and a byte that ends them
 abbrev pub fed_numbers : List ℕ → List (List ℕ)
 fed_numbers numbers = flat_map fed.u64 numbers ++ fed.u8 255
 

@@ -1,5 +1,4 @@
--- What there is to read of the text of a version or a pattern: its record, or its first fault with the texts
--- in it.
+-- The reading of the text of a version or a pattern: its record, or its first fault with the texts in it.
 use Rattle.std.specs.Prelude.{ℕ, ◌-◌, List, length, take, drop, Option, Some, None, Result, Ok, Err}
 use Rattle.std.specs.String.{string_bytes}
 use Rattle.pep440_text.specs.declared.FaultKind.{FaultKind}
@@ -12,7 +11,8 @@ use Rattle.pep440_version.specs.declared.parse_error.VersionParseError.TheVarian
 use Rattle.pep440_version.specs.declared.parse_error.VersionPatternParseError.{VersionPatternParseError}
 use Rattle.pep440_version.specs.declared.parse_error.VersionPatternParseError.TheVariants as patterns
 
--- why a text is no version: the digits of a number past 64 bits; what was read, and what is left behind it
+-- why a text is not a version: the digits of a number past 64 bits; what was read, and what is left after
+-- it
 pub data VersionFault : Type 0 where
   Wildcard : VersionFault
   NumberTooBig : List ℕ → VersionFault
@@ -46,7 +46,7 @@ version_reading text = with_texts text (read_version text)
 unfoldable pub pattern_reading : List ℕ → Result PatternRecord VersionFault
 pattern_reading text = with_texts text (read_pattern text)
 
--- the fault that an error tells; want of memory tells none
+-- the fault that an error reports; none for lack of memory
 abbrev pub told_version : VersionParseError → Option VersionFault
 told_version errors.Memory = None
 told_version errors.Wildcard = Some Wildcard

@@ -1,5 +1,4 @@
-//! Laws over the definitions that the contracts cite. The functions do nothing: each one's contract is its
-//! law.
+//! Laws of versions. The functions do nothing: each one's contract is its law.
 
 ghost use Rattle.std.specs.Prelude.{◌≡◌, ◌≢◌, ℕ, ◌↔◌, List, IsTrue};
 ghost use Rattle.std.specs.Result.{result_ok};
@@ -11,14 +10,14 @@ ghost use Rattle.pep440_text.specs.Reading.{version_of, pattern_of};
 ghost use Rattle.pep440_version.specs.VersionReading.{version_reading, pattern_reading};
 ghost use Rattle.pep440_version.specs.Order.{key_of, padded_cmp, stripped, version_cmp, version_eq};
 
-/// Versions are equal exactly where their keys are the same, and then they feed a hash alike.
+/// Versions are equal exactly where their keys are the same, and then they hash alike.
 #[tactic(auto, using(crate::specs::OrderLaws::key_decides))]
 pub fn key_decides()
     ensures { (a b : VersionRecord) → IsTrue (version_eq a b) ↔ (key_of a ≡ key_of b) }
 {}
 
-/// Zeros at the end of a release change neither order nor equality nor hash, as `1.0` is `1`: the keys are
-/// the same. They do change the print.
+/// Zeros at the end of a release change neither order nor equality nor hash, as `1.0` equals `1`: the keys
+/// are the same. They do change the print.
 pub fn end_zeros_change_nothing()
     ensures key { (version : VersionRecord) (count : ℕ)
         → key_of (with_end_zeros count version) ≡ key_of version }
@@ -30,12 +29,13 @@ pub fn end_zeros_change_nothing()
         → version_text (with_end_zeros count version) ≢ version_text (with_end_zeros other version) }
 {}
 
-/// Releases compare number by number, with zeros where one has ended.
+/// Releases compare number by number, the shorter one padded with zeros.
 pub fn releases_compare_padded()
     ensures { (a b : List ℕ) → slice_cmp nat_cmp (stripped a) (stripped b) ≡ padded_cmp a b }
 {}
 
-/// A reading with the texts of its fault finds a version, or a pattern, exactly where the text is one.
+/// A reading that reports the texts of a fault finds a version, or a pattern, exactly where the text is
+/// one.
 pub fn readings_find_what_texts_are()
     ensures version { (text : List ℕ) → version_of text ≡ result_ok (version_reading text) }
     ensures pattern { (text : List ℕ) → pattern_of text ≡ result_ok (pattern_reading text) }

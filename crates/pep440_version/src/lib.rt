@@ -1,7 +1,6 @@
-//! Versions of Python packages, as PEP 440 has them: what a version says, its text, its print and their
-//! order.
+//! Versions of Python packages, as PEP 440 has them: their parts, texts, prints and order.
 //!
-//! Contracts see a `Version` as a `VersionRecord`, whose parts stand each for itself.
+//! The model of a `Version` in contracts is a `VersionRecord`, with a field for each part.
 #![tactic(auto)]
 
 pub mod laws;

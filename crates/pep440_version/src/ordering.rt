@@ -1,4 +1,6 @@
 //! The order of versions, and their hash.
+//!
+//! `Ord::cmp` is `cmp_public` and, only where that is `Equal`, the comparison of the local parts.
 
 ghost use Rattle.std.specs.Prelude.{◌≡◌, [], ◌∷◌, map, fold, refl};
 ghost use Rattle.std.specs.Ordering.{nat_cmp, as_partial_cmp};
@@ -14,7 +16,7 @@ use crate::{LocalSegment, Prerelease, PrereleaseKind, Version};
 use std::cmp::Ordering;
 use std::hash::{Hash, Hasher};
 
-/// The numbers without the zeros at their end.
+/// Returns the numbers without the zeros at their end.
 #[tactic(auto, using(crate::proofs::Stripped::stripped_rules))]
 pub(crate) fn without_end_zeros(numbers: &[u64]) -> &[u64]
     ensures { result.now ≡ stripped numbers.now }
@@ -33,7 +35,7 @@ pub(crate) fn without_end_zeros(numbers: &[u64]) -> &[u64]
     }
 }
 
-/// Compares releases, in which zeros at the end do not count.
+/// Compares releases; zeros at their end do not count.
 fn compare_releases(a: &[u64], b: &[u64]) -> Ordering
     ensures { result ≡ slice_cmp nat_cmp (stripped a.now) (stripped b.now) }
 {
@@ -142,8 +144,8 @@ fn compare_local(a: &[LocalSegment], b: &[LocalSegment]) -> Ordering
 }
 
 impl Version {
-    /// The place among the versions of one release: below every suffix, a developmental release, the kinds of
-    /// pre-release, the release, a post-release.
+    /// Returns the rank of a version among those of its release, from the lowest: below every suffix, a
+    /// developmental release, the kinds of pre-release, the release, a post-release.
     fn class(&self) -> u64
         ensures { result ≡ class_of self.now }
     {
@@ -160,14 +162,14 @@ impl Version {
         }
     }
 
-    /// Compares the releases alone, in which zeros at the end do not count (PEP 440, "Final releases").
+    /// Compares the releases alone; zeros at their end do not count (PEP 440, "Final releases").
     pub fn cmp_release(&self, other: &Version) -> Ordering
         ensures { result ≡ slice_cmp nat_cmp (stripped self.now.release) (stripped other.now.release) }
     {
         compare_releases(self.release(), other.release())
     }
 
-    /// Compares all but the local parts (PEP 440, "Local version identifiers"). Suffixes are looked at only
+    /// Compares all but the local parts (PEP 440, "Local version identifiers"). Suffixes are compared only
     /// where epochs and releases are equal.
     #[tactic(auto, unfolding(crate::specs::Order::key_of))]
     pub fn cmp_public(&self, other: &Version) -> Ordering
@@ -230,7 +232,7 @@ impl PartialOrd for Version {
     }
 }
 
-/// Feeds the numbers, and then a byte that ends them.
+/// Feeds the numbers to a hash, and then a byte that ends them.
 fn feed_numbers<H: Hasher>(numbers: &[u64], state: &mut H)
     ensures { state.new ≡ fold H.write state.old (fed_numbers numbers.now) }
 {

@@ -1,4 +1,7 @@
-//! Why a text is no version or no pattern.
+//! Why a text is not a version or not a pattern.
+//!
+//! `after parsing V, found REST` cuts the whole text in two, white space at its front and before the rest
+//! included. A number that is too big is reported by its digits as they were written.
 
 ghost use Rattle.std.specs.Prelude.{◌≡◌, ◌≢◌, IfOk, IfSome, Some, Err, alloc_error};
 ghost use Rattle.std.specs.Option.{option_map};
@@ -16,16 +19,16 @@ use std::alloc::{AllocError, AllocFailed, Global};
 use std::error::Error;
 use std::fmt;
 
-/// Why a text is no version.
+/// Why a text is not a version.
 #[derive(Debug, PartialEq, Eq, Drop)]
 pub enum VersionParseError {
     /// Memory ran out while reading.
     Memory,
-    /// `.*` stands behind the release, where a version is wanted and no pattern.
+    /// `.*` follows the release, where a version is wanted and not a pattern.
     Wildcard,
     /// A number exceeds `u64::MAX`.
     NumberTooBig {
-        /// Its digits, as they are written.
+        /// The number's digits, as they are written.
         number: String,
     },
     /// The text, or what follows the epoch, doesn't begin with an ASCII digit.
@@ -34,9 +37,9 @@ pub enum VersionParseError {
     LocalEmpty,
     /// Something is left that can't be part of the version.
     UnexpectedEnd {
-        /// What was read so far.
+        /// The text that was read so far.
         version: String,
-        /// What is left.
+        /// The text that is left.
         remaining: String,
     },
 }
@@ -72,7 +75,8 @@ impl fmt::Display for VersionParseError {
             VersionParseError::Wildcard => write!(f, "wildcards are not allowed in a version"),
             VersionParseError::NumberTooBig { number } => write!(
                 f,
-                "expected number less than or equal to 18446744073709551615, but number found in \"{number}\" exceeds it"
+                "expected number less than or equal to 18446744073709551615, \
+                 but number found in \"{number}\" exceeds it"
             ),
             VersionParseError::NoLeadingNumber => write!(
                 f,
@@ -95,7 +99,7 @@ impl fmt::Display for VersionParseError {
 
 impl Error for VersionParseError {}
 
-/// The digits at the front of some bytes. Takes memory for them.
+/// Returns the digits at the front of some bytes. Takes memory for them.
 fn digits_of(alloc: Global, bytes: &[u8]) -> Result<String, AllocError>
     ensures { IfOk result (λ digits. string_bytes digits ≡ leading_digits bytes.now) }
 {
@@ -110,7 +114,7 @@ fn digits_of(alloc: Global, bytes: &[u8]) -> Result<String, AllocError>
 }
 
 impl VersionParseError {
-    /// The error of a fault in a text. Takes memory for the texts in it.
+    /// Returns the error for a fault in a text. Takes memory for the texts in it.
     fn of_fault(
         alloc: Global,
         text: &str,
@@ -135,7 +139,7 @@ impl VersionParseError {
         }
     }
 
-    /// The error of a text that could not be read.
+    /// Returns the error for a text that could not be read.
     pub(crate) fn of_reading(alloc: Global, text: &str, error: ReadError) -> VersionParseError
         requires { IfSome (told_read error) (StandsIn text.now) }
         ensures told { IfSome (told_version result)
@@ -152,12 +156,12 @@ impl VersionParseError {
     }
 }
 
-/// Why a text is no pattern.
+/// Why a text is not a pattern.
 #[derive(Debug, PartialEq, Eq, Drop)]
 pub enum VersionPatternParseError {
     /// Memory ran out while reading.
     Memory,
-    /// What is wrong with the version; never want of memory.
+    /// What is wrong with the version; never lack of memory.
     Version(VersionParseError),
 }
 
@@ -175,7 +179,7 @@ impl fmt::Display for VersionPatternParseError {
 impl Error for VersionPatternParseError {}
 
 impl VersionPatternParseError {
-    /// The error of a text that could not be read.
+    /// Returns the error for a text that could not be read.
     pub(crate) fn of_reading(
         alloc: Global,
         text: &str,

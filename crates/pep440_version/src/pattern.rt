@@ -1,4 +1,4 @@
-//! Versions, or all versions that begin like one.
+//! Versions, or all versions whose release begins like one.
 
 ghost use Rattle.std.specs.Prelude.{◌≡◌, ◌≢◌, true, false, IfOk, IfErr, Err};
 ghost use Rattle.pep440_text.specs.Record.{PatternRecord, epoch_record};
@@ -14,7 +14,7 @@ use std::alloc::{AllocError, Global};
 use std::hash::{Hash, Hasher};
 use std::marker::Model;
 
-/// A version, or with `.*` behind it every version whose release begins alike (PEP 440, "Version matching").
+/// A version, or with `.*` after it every version whose release begins alike (PEP 440, "Version matching").
 ///
 /// Comparing and hashing go by the version, as those of `Version` do, and by the star.
 #[derive(Debug, Drop)]
@@ -36,7 +36,7 @@ impl Model for VersionPattern {
 }
 
 impl VersionPattern {
-    /// The pattern of this version alone.
+    /// Returns the pattern of this version alone.
     pub fn verbatim(version: Version) -> VersionPattern
         ensures { result ≡ record { version = version; wildcard = false } }
     {
@@ -46,8 +46,8 @@ impl VersionPattern {
         }
     }
 
-    /// The pattern of all versions whose release begins with this one's, which has an epoch and a release
-    /// alone.
+    /// Returns the pattern of all versions whose release begins with that of this version, which has an
+    /// epoch and a release alone.
     pub fn wildcard(version: Version) -> VersionPattern
         requires { version ≡ epoch_record version.epoch version.release }
         ensures { result ≡ record { version = version; wildcard = true } }
@@ -58,10 +58,13 @@ impl VersionPattern {
         }
     }
 
-    /// Reads a version, as `1.2rc1`, or an epoch and a release with `.*` behind them, as `1.2.*`; ASCII white
-    /// space may stand around.
+    /// Reads a version, as `1.2rc1`, or an epoch and a release followed by `.*`, as `1.2.*`; ASCII white
+    /// space is allowed around it.
     ///
-    /// Costs are those of `Version::from_str`. The error names the first fault from the left.
+    /// Costs are those of `Version::from_str`.
+    ///
+    /// # Errors
+    /// `Version` with the first fault from the left; `Memory` where memory ran out.
     pub fn from_str(alloc: Global, text: &str) -> Result<VersionPattern, VersionPatternParseError>
         ensures answered { Answers (λ pattern. pattern) told_pattern result (pattern_reading text.now) }
         ensures grown { result ≡ Err patterns.Memory → pattern_reading text.now ≢ Err NoLeadingNumber }
@@ -76,7 +79,7 @@ impl VersionPattern {
         }
     }
 
-    /// A copy, in memory of its own.
+    /// Returns a copy, in memory of its own.
     pub fn try_clone(&self, alloc: Global) -> Result<VersionPattern, AllocError>
         ensures { IfOk result (λ copy. copy ≡ self.now) }
     {
@@ -86,21 +89,21 @@ impl VersionPattern {
         })
     }
 
-    /// The version, without the star.
+    /// Returns the version, without the star.
     pub fn version(&self) -> &Version
         ensures { result.now ≡ self.now.version }
     {
         &self.version
     }
 
-    /// The version, without the star.
+    /// Returns the version, without the star; consumes the pattern.
     pub fn into_version(self) -> Version
         ensures { result ≡ self.version }
     {
         self.version
     }
 
-    /// Whether `.*` stands behind the version.
+    /// Returns whether `.*` follows the version.
     pub fn is_wildcard(&self) -> bool
         ensures { result ≡ self.now.wildcard }
     {

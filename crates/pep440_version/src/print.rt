@@ -1,4 +1,4 @@
-//! The prints of versions.
+//! How versions print.
 
 ghost use Rattle.std.specs.Prelude.{Some, ◌++◌, map, codes};
 ghost use Rattle.std.specs.Fmt.{DisplaysOnOk, decimal};
@@ -20,7 +20,7 @@ fn write_epoch<W: fmt::Write>(epoch: u64, f: &mut fmt::Formatter<W>) -> fmt::Res
     write!(f, "{epoch}!")
 }
 
-/// Writes a number, and more with a dot before each.
+/// Writes a number, and the others with a dot before each.
 fn write_numbers<W: fmt::Write>(
     first: u64,
     others: &[u64],
@@ -57,7 +57,7 @@ fn write_pre<W: fmt::Write>(pre: Option<Prerelease>, f: &mut fmt::Formatter<W>) 
     }
 }
 
-/// Writes a word and a number behind it, if there is one.
+/// Writes a word followed by the number, if there is one.
 fn write_numbered<W: fmt::Write>(
     word: &str,
     number: Option<u64>,
@@ -71,7 +71,7 @@ fn write_numbered<W: fmt::Write>(
     }
 }
 
-/// Writes `+` and a segment, and more with a dot before each.
+/// Writes `+` and a segment, and the others with a dot before each.
 fn write_segments<W: fmt::Write>(
     first: &LocalSegment,
     others: &[LocalSegment],

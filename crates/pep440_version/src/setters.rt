@@ -12,7 +12,7 @@ use pep440_text::release::Release;
 use std::alloc::{AllocError, Global};
 
 impl Version {
-    /// An early version: `0a0.dev0`. Some versions lie below it, as `0.dev0`.
+    /// Returns an early version, `0a0.dev0`. Some versions are below it, as `0.dev0`.
     pub fn min_version(alloc: Global) -> Result<Version, AllocError>
         ensures { IfOk result (λ version. version ≡ early_version) }
     {
@@ -27,7 +27,7 @@ impl Version {
         )
     }
 
-    /// The version with another epoch.
+    /// Returns the version with another epoch.
     pub fn with_epoch(mut self, epoch: u64) -> Version
         ensures { result ≡ record self { epoch = epoch } }
     {
@@ -35,7 +35,7 @@ impl Version {
         self
     }
 
-    /// The version with other release numbers, at least one. Takes memory for more than three.
+    /// Returns the version with other release numbers, at least one. Takes memory for more than three.
     pub fn with_release(mut self, alloc: Global, release: &[u64]) -> Result<Version, AllocError>
         requires { 0 < length release.now }
         ensures { IfOk result (λ version. version ≡ record self { release = release.now }) }
@@ -44,7 +44,7 @@ impl Version {
         Ok(self)
     }
 
-    /// The version with another pre-release, or none.
+    /// Returns the version with another pre-release, or none.
     pub fn with_pre(mut self, pre: Option<Prerelease>) -> Version
         ensures { result ≡ record self { pre = pre } }
     {
@@ -52,7 +52,7 @@ impl Version {
         self
     }
 
-    /// The version with another post-release, or none.
+    /// Returns the version with another post-release, or none.
     pub fn with_post(mut self, post: Option<u64>) -> Version
         ensures { result ≡ record self { post = post } }
     {
@@ -60,7 +60,7 @@ impl Version {
         self
     }
 
-    /// The version with another developmental release, or none.
+    /// Returns the version with another developmental release, or none.
     pub fn with_dev(mut self, dev: Option<u64>) -> Version
         ensures { result ≡ record self { dev = dev } }
     {
@@ -68,7 +68,7 @@ impl Version {
         self
     }
 
-    /// The version with other segments in its local part, none for no such part.
+    /// Returns the version with other segments in its local part; no segments mean no local part.
     pub fn with_local(mut self, local: Vec<LocalSegment>) -> Version
         ensures { result ≡ record self { local = map segment_of local.items } }
     {
@@ -76,7 +76,7 @@ impl Version {
         self
     }
 
-    /// The version without its local part.
+    /// Returns the version without its local part.
     pub fn without_local(mut self) -> Version
         ensures { result ≡ without_local self }
     {
@@ -84,7 +84,8 @@ impl Version {
         self
     }
 
-    /// The version with another `min`, or none; it has neither a pre-release nor a developmental release.
+    /// Returns the version with another `min` mark, or none; it has neither a pre-release nor a
+    /// developmental release.
     pub fn with_min(mut self, min: Option<u64>) -> Version
         requires pre { self.pre ≡ None }
         requires dev { self.dev ≡ None }
@@ -94,7 +95,8 @@ impl Version {
         self
     }
 
-    /// The version with another `max`, or none; it has neither a post-release nor a developmental release.
+    /// Returns the version with another `max` mark, or none; it has neither a post-release nor a
+    /// developmental release.
     pub fn with_max(mut self, max: Option<u64>) -> Version
         requires post { self.post ≡ None }
         requires dev { self.dev ≡ None }
@@ -104,8 +106,8 @@ impl Version {
         self
     }
 
-    /// Whether it is release numbers alone: epoch 0, no suffix, no local part, and at no end of a range (PEP
-    /// 440, "Final releases"). Takes no memory; its cost is constant.
+    /// Returns whether the version is release numbers alone: epoch 0, no suffix, no local part, and no mark
+    /// as the end of a range (PEP 440, "Final releases"). Takes no memory; its cost is constant.
     #[tactic(auto, using(crate::proofs::Releases::only_release_is))]
     pub fn is_only_release(&self) -> bool
         ensures { IsTrue result ↔ (self.now ≡ release_record self.now.release) }
@@ -115,9 +117,9 @@ impl Version {
         self.epoch == 0 && !suffixed && !at_end
     }
 
-    /// The version without the zeros at its release's end, down to one number, as `1.2` of `1.2.0.0` and `0`
-    /// of `0.0`: the shortest of those that are equal to it but for the local part. Takes no memory; goes
-    /// once over the zeros.
+    /// Returns the version without the zeros at its release's end, down to one number, as `1.2` for
+    /// `1.2.0.0` and `0` for `0.0`: the shortest of those that are equal to it but for the local part.
+    /// Takes no memory; goes once over the zeros.
     #[tactic(auto, using(crate::proofs::Releases::kept_numbers))]
     pub fn without_end_zeros(mut self) -> Version
         ensures { result ≡ without_end_zeros self }
@@ -127,8 +129,8 @@ impl Version {
         self
     }
 
-    /// The version with the last of its release numbers raised by one, as `1.3` of `1.2`; `None` where that
-    /// number is `u64::MAX`. Takes no memory; its cost is constant.
+    /// Returns the version with the last of its release numbers raised by one, as `1.3` for `1.2`; `None`
+    /// where that number is `u64::MAX`. Takes no memory; its cost is constant.
     pub fn with_last_raised(mut self) -> Option<Version>
         ensures { result
             ≡ option_map (λ numbers. record self { release = numbers }) (last_raised self.release) }
@@ -137,8 +139,8 @@ impl Version {
         Some(self)
     }
 
-    /// The version of its release numbers alone, without epoch and suffixes. Takes memory for more than
-    /// three.
+    /// Returns the version of the release numbers alone, without epoch and suffixes. Takes memory for more
+    /// than three.
     pub fn only_release(&self, alloc: Global) -> Result<Version, AllocError>
         ensures { IfOk result (λ version. version ≡ release_record self.now.release) }
     {

@@ -1,4 +1,7 @@
 //! Versions.
+//!
+//! Every version has a release number. This is an invariant of `Version`, so the last number can always be
+//! raised, or is refused as `NumberAtEnd`.
 
 ghost use Rattle.std.specs.Prelude.{◌≡◌, ◌≢◌, ◌<◌, length, map, not, is_some, IfOk, Err};
 ghost use Rattle.pep440_text.specs.Record.{VersionRecord, release_record, said, segment_of};
@@ -17,8 +20,9 @@ use std::marker::Model;
 
 /// A version (PEP 440, "Version scheme").
 ///
-/// Its parts are seen by `epoch`, `release`, `pre`, `post`, `dev` and `local`. Comparing and hashing go by
-/// the order of PEP 440, so that `1.0` equals `1`; they take no memory and go once through both versions.
+/// Its parts are returned by `epoch`, `release`, `pre`, `post`, `dev` and `local`. Comparing and hashing go
+/// by the order of PEP 440, so that `1.0` equals `1`; they take no memory and go once through both
+/// versions.
 #[derive(Drop)]
 pub struct Version {
     pub(crate) epoch: u64,
@@ -49,7 +53,8 @@ impl Model for Version {
 }
 
 impl Version {
-    /// The version with these release numbers and no other part. Takes memory for more than three numbers.
+    /// Returns the version with these release numbers and no other part. Takes memory for more than three
+    /// numbers.
     pub fn new(alloc: Global, release: &[u64]) -> Result<Version, AllocError>
         requires { 0 < length release.now }
         ensures { IfOk result (λ version. version ≡ release_record release.now) }
@@ -58,11 +63,13 @@ impl Version {
     }
 
     /// Reads a version, as `1!2.0rc1.post2.dev3+ubuntu.1`: letters in either case, every spelling that PEP
-    /// 440 normalizes ("Normalization"), and ASCII white space around.
+    /// 440 normalizes ("Normalization"), and ASCII white space around it.
     ///
     /// Linear in the text; takes memory for the numbers of the release and the segments of the local part,
-    /// and for the texts in the error. The error names the first fault from the left; where no number begins
-    /// the release, nothing was allocated before it.
+    /// and for the texts in the error. Where no number begins the release, nothing is allocated.
+    ///
+    /// # Errors
+    /// The first fault from the left, where the text is not a version; `Memory` where memory ran out.
     pub fn from_str(alloc: Global, text: &str) -> Result<Version, VersionParseError>
         ensures answered { Answers (λ version. version) told_version result (version_reading text.now) }
         ensures grown { result ≡ Err errors.Memory → version_reading text.now ≢ Err NoLeadingNumber }
@@ -73,7 +80,7 @@ impl Version {
         }
     }
 
-    /// The version whose parts a text says.
+    /// Returns the version of the parts of a text.
     pub(crate) fn of_parts(parts: VersionParts) -> Version
         requires { 0 < length parts.release.items }
         ensures { result ≡ said parts }
@@ -98,7 +105,7 @@ impl Version {
         }
     }
 
-    /// A copy, in memory of its own.
+    /// Returns a copy, in memory of its own.
     pub fn try_clone(&self, alloc: Global) -> Result<Version, AllocError>
         ensures { IfOk result (λ copy. copy ≡ self.now) }
     {
@@ -110,14 +117,15 @@ impl Version {
         })
     }
 
-    /// The number before `!`, 0 where the text has none (PEP 440, "Version epochs").
+    /// Returns the epoch, the number before `!`; 0 where the text has none (PEP 440, "Version epochs").
     pub fn epoch(&self) -> u64
         ensures { result ≡ self.now.epoch }
     {
         self.epoch
     }
 
-    /// The release numbers, with the zeros at their end that were given (PEP 440, "Final releases").
+    /// Returns the release numbers, with the zeros at their end that were given (PEP 440, "Final
+    /// releases").
     pub fn release(&self) -> &[u64]
         ensures numbers { result.now ≡ self.now.release }
         ensures some { 0 < length self.now.release }
@@ -125,28 +133,29 @@ impl Version {
         self.release.numbers()
     }
 
-    /// The pre-release, if it is one (PEP 440, "Pre-releases").
+    /// Returns the pre-release, where the version is one (PEP 440, "Pre-releases").
     pub fn pre(&self) -> Option<Prerelease>
         ensures { result ≡ self.now.pre }
     {
         self.suffixes.pre()
     }
 
-    /// The number of the post-release, if it is one (PEP 440, "Post-releases").
+    /// Returns the number of the post-release, where the version is one (PEP 440, "Post-releases").
     pub fn post(&self) -> Option<u64>
         ensures { result ≡ self.now.post }
     {
         self.suffixes.post()
     }
 
-    /// The number of the developmental release, if it is one (PEP 440, "Developmental releases").
+    /// Returns the number of the developmental release, where the version is one (PEP 440, "Developmental
+    /// releases").
     pub fn dev(&self) -> Option<u64>
         ensures { result ≡ self.now.dev }
     {
         self.suffixes.dev()
     }
 
-    /// The segments of the local part, none where there is no such part (PEP 440, "Local version
+    /// Returns the segments of the local part; none where there is no local part (PEP 440, "Local version
     /// identifiers").
     pub fn local(&self) -> &[LocalSegment]
         ensures { map segment_of result.now ≡ self.now.local }
@@ -154,58 +163,58 @@ impl Version {
         &self.local
     }
 
-    /// The number by which it stands below every suffix of its release, as the lower end of a range; no text
-    /// says it.
+    /// Returns the mark by which the version sorts below every suffix of its release, as the lower end of a
+    /// range; versions read from texts have none.
     pub fn min(&self) -> Option<u64>
         ensures { result ≡ self.now.least }
     {
         self.suffixes.least()
     }
 
-    /// The number by which it stands above every post-release of its release, as the upper end of a range; no
-    /// text says it.
+    /// Returns the mark by which the version sorts above every post-release of its release, as the upper
+    /// end of a range; versions read from texts have none.
     pub fn max(&self) -> Option<u64>
         ensures { result ≡ self.now.most }
     {
         self.suffixes.most()
     }
 
-    /// Whether it is a pre-release or a developmental release.
+    /// Returns whether the version is a pre-release or a developmental release.
     pub fn any_prerelease(&self) -> bool
         ensures { result ≡ is_prerelease self.now }
     {
         self.is_pre() || self.is_dev()
     }
 
-    /// Whether it is neither a pre-release nor a developmental release.
+    /// Returns whether the version is neither a pre-release nor a developmental release.
     pub fn is_stable(&self) -> bool
         ensures { result ≡ not (is_prerelease self.now) }
     {
         !self.any_prerelease()
     }
 
-    /// Whether it is a pre-release (PEP 440, "Pre-releases").
+    /// Returns whether the version is a pre-release (PEP 440, "Pre-releases").
     pub fn is_pre(&self) -> bool
         ensures { result ≡ is_some self.now.pre }
     {
         self.suffixes.pre().is_some()
     }
 
-    /// Whether it is a developmental release (PEP 440, "Developmental releases").
+    /// Returns whether the version is a developmental release (PEP 440, "Developmental releases").
     pub fn is_dev(&self) -> bool
         ensures { result ≡ is_some self.now.dev }
     {
         self.suffixes.dev().is_some()
     }
 
-    /// Whether it is a post-release (PEP 440, "Post-releases").
+    /// Returns whether the version is a post-release (PEP 440, "Post-releases").
     pub fn is_post(&self) -> bool
         ensures { result ≡ is_some self.now.post }
     {
         self.suffixes.post().is_some()
     }
 
-    /// Whether it has a local part (PEP 440, "Local version identifiers").
+    /// Returns whether the version has a local part (PEP 440, "Local version identifiers").
     pub fn is_local(&self) -> bool
         ensures { result ≡ has_local self.now }
     {

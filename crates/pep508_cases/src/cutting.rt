@@ -1,4 +1,4 @@
-//! A case cut by one more tree: where the tree holds too, and where it doesn't.
+//! Splitting a case by one more tree: where the tree holds too, and where it doesn't.
 
 ghost use Rattle.std.specs.Prelude.{◌≡◌, ◌≤◌, ◌+◌, ◌&&◌, not, IfOk};
 ghost use Rattle.pep508_diagram.specs.Question.{Valuation};
@@ -10,15 +10,15 @@ use pep508_tree::{Interner, MarkerTree};
 use pep508_tree_laws::a_tree_holds_somewhere;
 use std::alloc::{AllocError, Global};
 
-/// Where a case holds and a tree too, and where the case holds and the tree doesn't; each only where there is
-/// such a valuation.
+/// The tree that holds where a case and a tree do, and the one that holds where the case does and the tree
+/// doesn't; each only where it holds under some valuation.
 #[derive(Clone, Copy)]
 pub(crate) struct Halves {
     pub with: Option<MarkerTree>,
     pub without: Option<MarkerTree>,
 }
 
-/// The conjunction of two trees, where it ever holds.
+/// Returns the conjunction of two trees, unless it never holds.
 fn meeting(
     alloc: Global,
     interner: &mut Interner,
@@ -41,7 +41,7 @@ fn meeting(
     Ok(Some(both))
 }
 
-/// A tree, where it ever holds.
+/// Returns a tree, unless it never holds.
 fn whole(interner: &Interner, tree: MarkerTree) -> Option<MarkerTree>
     requires { IsTree interner.now.nodes tree }
     ensures { Finds interner.now.nodes (λ v. holds interner.now.nodes tree v) result }
@@ -54,8 +54,8 @@ fn whole(interner: &Interner, tree: MarkerTree) -> Option<MarkerTree>
     Some(tree)
 }
 
-/// The two halves of a case. Where it lies in one of them no conjunction is asked for, and where the tree
-/// always holds, as of a line without a marker, no node is looked at.
+/// Returns the two halves of a case. Where the case lies in one of them no conjunction is made, and where
+/// the tree always holds, as that of a line without a marker, no node is looked at.
 pub(crate) fn halved(
     alloc: Global,
     interner: &mut Interner,

@@ -1,4 +1,4 @@
-//! Trees that stand among earlier ones, by which no case is cut again.
+//! Trees that are equal to earlier ones, by which no case is split again.
 
 ghost use Rattle.std.specs.Prelude.{◌≡◌, ◌<◌, get_or, length, map, false, IfOk, IfSome};
 ghost use Rattle.pep508_cases.specs.Cases.{cases_seen};
@@ -9,10 +9,10 @@ use pep508_tree::MarkerTree;
 use std::alloc::{AllocError, Global};
 use std::collections::HashMap;
 
-/// Where trees stand that were looked at.
+/// The places of the trees that were looked at.
 pub(crate) type Places = HashMap<MarkerTree, usize>;
 
-/// Keeps where a tree of so many stands. One alone stands before no other.
+/// Remembers the place of one of `count` trees. A single tree comes before no other, and is not remembered.
 pub(crate) fn remember(
     places: &mut Places,
     count: usize,
@@ -25,7 +25,7 @@ pub(crate) fn remember(
     Ok(())
 }
 
-/// The place of a tree that stands before this place too.
+/// Returns the place of an equal tree before this place, where one is remembered.
 pub(crate) fn earlier_place(
     places: &Places,
     trees: &[MarkerTree],
@@ -41,7 +41,7 @@ pub(crate) fn earlier_place(
     }
 }
 
-/// A place that was remembered, where the tree stands there.
+/// Returns a remembered place, where it is before this one and the tree at it is this one.
 fn earlier_same(
     trees: &[MarkerTree],
     place: usize,
@@ -57,8 +57,8 @@ fn earlier_same(
     None
 }
 
-/// Cases of some trees as those of one tree more, which is one of them again: each case has the mark of that
-/// earlier tree at its end too.
+/// Returns the cases of some trees as those of one tree more, which is equal to an earlier one: the mark of
+/// that earlier tree is appended to each case.
 pub(crate) fn with_marks_again(
     alloc: Global,
     cases: Vec<TreeCase>,
@@ -75,7 +75,7 @@ pub(crate) fn with_marks_again(
     Ok(again)
 }
 
-/// The mark at a place.
+/// Returns the mark at a place.
 fn mark_at(marks: &[bool], place: usize) -> bool
     ensures { result ≡ get_or marks.now place false }
 {

@@ -1,12 +1,11 @@
-//! Laws over the definitions that the contracts cite. The functions do nothing: each one's contract is its
-//! law.
+//! Laws of cases. The functions do nothing: each one's contract is its law.
 
 ghost use Rattle.std.specs.Prelude.{◌≡◌, ◌<◌, ℕ, List, length};
 ghost use Rattle.pep508_tree.specs.Tree.{Tree};
 ghost use Rattle.pep508_tree.specs.Meaning.{NodeRecord, Extends};
 ghost use Rattle.pep508_cases.specs.Cases.{Marks, Marking, AreCases, HasMore, sets_of};
 
-/// There is one list of the sets, however it was found, and with whatever nodes.
+/// There is just one list of the sets, however it was found, and with whatever nodes.
 #[tactic(auto, using(crate::proofs::Counting::cases_are_one))]
 pub fn cases_are_one()
     ensures { (marking : Marking) (nodes others : List NodeRecord) (cases found : List (Marks × Tree)) →

@@ -61,7 +61,7 @@ python_points GreaterThanEqual numbers = release_range_by GreaterThanEqual numbe
 abbrev pub is_zero : ℕ → Bool
 is_zero number = number == 0
 
--- compared with three numbers or more, which no value has: it equals none, and each lies before or behind
+-- compared with three numbers or more, which no value has: no value equals it, and each lies below or above
 -- it as its first two numbers do
 abbrev pub python_points_past : Operator → List ℕ → Option PointTest
 python_points_past Equal numbers = Some nowhere
@@ -76,7 +76,8 @@ python_points_past LessThanEqual numbers = before_next_minor numbers
 python_points_past GreaterThan numbers = from_next_minor numbers
 python_points_past GreaterThanEqual numbers = from_next_minor numbers
 
--- zeros at the end of a release say nothing, but beside a star and `~=`, where the number of numbers counts
+-- zeros at the end of a release mean nothing, except with a star and `~=`, where the number of numbers
+-- counts
 abbrev pub compared_numbers : Operator → List ℕ → List ℕ
 compared_numbers Equal numbers = or_zero (stripped numbers)
 compared_numbers EqualStar numbers = numbers

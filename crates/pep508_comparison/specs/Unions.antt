@@ -11,8 +11,8 @@ use Rattle.pep440_range.specs.declared.range_error.RangeError.{RangeError}
 use Rattle.pep440_range.specs.declared.range_error.RangeError.TheVariants.{NumberAtEnd, Memory}
 use Rattle.pep508_comparison.specs.Comparisons.{some_holds}
 
--- an answer holds the points that are in any of the sets, and is refused where one of them is missing; only
--- want of memory leaves both open
+-- a result holds the points that are in any of the sets, and is an error where one of them is missing; only
+-- lack of memory leaves both open
 abbrev pub GivesAny : Result (List (Point VersionRecord)) RangeError → List (Option PointTest) → Type 0
 GivesAny (Ok set) tests =
     (list_all is_some tests ≡ true)

@@ -1,8 +1,9 @@
-//! Which versions the comparisons of environment markers hold (PEP 508, "Environment Markers").
+#![tactic(auto)]
+//! The sets of versions for which the comparisons of environment markers hold (PEP 508, "Environment
+//! Markers").
 //!
 //! `python_version` has the first two numbers of `python_full_version` as its values, so a comparison of it
 //! is a set of full versions.
-#![tactic(auto)]
 
 pub mod laws;
 mod lists;

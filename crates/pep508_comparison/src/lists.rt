@@ -18,9 +18,9 @@ use pep440_version::Version;
 use std::alloc::{AllocError, Global};
 use version_ranges::Ranges;
 
-/// The versions of a list, or all others.
+/// Returns the set of the versions of a list, or of all others where `negated`.
 ///
-/// Sets of halves of the list are joined with each other, so that n versions take O(n log n) comparisons of
+/// The sets of the two halves of the list are joined, so that n versions take O(n log n) comparisons of
 /// versions. Takes memory for the bounds.
 pub fn listed_range(
     alloc: Global,
@@ -38,11 +38,14 @@ pub fn listed_range(
     }
 }
 
-/// The full versions for which `python_version` is listed, or is not. A listed version of three numbers or
-/// more, zeros counted, makes both hold nowhere, and then no number is raised.
+/// Returns the full versions for which `python_version` is listed, or is not where `negated`. A listed
+/// version of three numbers or more, zeros counted, makes both hold nowhere, and then no number is raised.
 ///
-/// `NumberAtEnd` where the minor release behind a listed one has a number past 64 bits. Takes as many
-/// comparisons and as much memory as `listed_range`.
+/// Its comparisons and memory are those of `listed_range`.
+///
+/// # Errors
+/// `NumberAtEnd` where the minor release after a listed one has a number past 64 bits; `Memory` where
+/// memory ran out.
 pub fn python_listed_range(
     alloc: Global,
     negated: bool,
@@ -56,7 +59,7 @@ pub fn python_listed_range(
     sets::negated(alloc, negated, minors_range(alloc, versions))
 }
 
-/// The set of the versions: that of each half of them, joined with that of the other half.
+/// Returns the set of the versions: that of the one half joined with that of the other half.
 fn listed_versions(alloc: Global, versions: &[Version]) -> Result<Ranges<Version>, AllocError>
     ensures { IfOk result (λ set. (p : Point VersionRecord) →
         holds_at version_cmp set p ≡ listed versions.now p) }
@@ -74,7 +77,8 @@ fn listed_versions(alloc: Global, versions: &[Version]) -> Result<Ranges<Version
     front.union(alloc, &back)
 }
 
-/// The full versions of the listed minor releases, joined likewise.
+/// Returns the full versions of the listed minor releases: those of the one half joined with those of the
+/// other half.
 fn minors_range(alloc: Global, versions: &[Version]) -> Result<Ranges<Version>, RangeError>
     ensures { GivesAny result (listed_minors versions.now) }
 {
@@ -90,7 +94,7 @@ fn minors_range(alloc: Global, versions: &[Version]) -> Result<Ranges<Version>, 
     sets::either(alloc, &front, &back)
 }
 
-/// Whether each version has at most two numbers, zeros counted.
+/// Returns whether each version has at most two numbers, zeros counted.
 fn are_minors(versions: &[Version]) -> bool
     ensures { result ≡ list_all (λ version. is_minor version.release) versions.now }
 {

@@ -10,7 +10,7 @@ use pep440_version::Version;
 use std::alloc::Global;
 use version_ranges::Ranges;
 
-/// The full versions of the minor release that the numbers begin with.
+/// Returns the full versions of the minor release with which the numbers begin.
 pub(crate) fn in_minor(alloc: Global, numbers: &[u64]) -> Result<Ranges<Version>, RangeError>
     ensures { Gives result (in_minor numbers.now) }
 {
@@ -20,7 +20,7 @@ pub(crate) fn in_minor(alloc: Global, numbers: &[u64]) -> Result<Ranges<Version>
     sets::up_to(alloc, first, end)
 }
 
-/// The full versions from the next minor release on.
+/// Returns the full versions from the next minor release on.
 pub(crate) fn from_next_minor(alloc: Global, numbers: &[u64]) -> Result<Ranges<Version>, RangeError>
     ensures { Gives result (from_next_minor numbers.now) }
 {
@@ -28,7 +28,7 @@ pub(crate) fn from_next_minor(alloc: Global, numbers: &[u64]) -> Result<Ranges<V
     sets::from(alloc, Version::new(alloc, &next)?)
 }
 
-/// The full versions before the next minor release.
+/// Returns the full versions before the next minor release.
 pub(crate) fn before_next_minor(
     alloc: Global,
     numbers: &[u64],

@@ -1,4 +1,4 @@
-//! The release numbers that comparisons look at.
+//! The release numbers that count in comparisons.
 
 ghost use Rattle.std.specs.Prelude.{◌≡◌, ◌<◌, length};
 ghost use Rattle.std.specs.List.{list_all};
@@ -11,7 +11,7 @@ ghost use Rattle.pep508_comparison.specs.Comparisons.{minor_of, compared_numbers
 use pep440_operator::Operator;
 use pep440_range::RangeError;
 
-/// The numbers that count beside an operator.
+/// Returns the numbers that count for an operator.
 pub(crate) fn compared_numbers(operator: Operator, numbers: &[u64]) -> &[u64]
     requires { 0 < length numbers.now }
     ensures { result.now ≡ compared_numbers operator numbers.now }
@@ -28,7 +28,7 @@ pub(crate) fn compared_numbers(operator: Operator, numbers: &[u64]) -> &[u64]
     }
 }
 
-/// The numbers without the zeros at their end, down to one number.
+/// Returns the numbers without the zeros at their end, down to one number.
 #[tactic(auto, using(crate::proofs::Zeros::kept_rules))]
 fn without_end_zeros(numbers: &[u64]) -> &[u64]
     requires { 0 < length numbers.now }
@@ -51,7 +51,7 @@ fn without_end_zeros(numbers: &[u64]) -> &[u64]
     }
 }
 
-/// The first two numbers, the second 0 where it is not written.
+/// Returns the first two numbers, the second 0 where it is not written.
 pub(crate) fn minor_of(numbers: &[u64]) -> [u64; 2]
     ensures { result ≡ minor_of numbers.now }
 {
@@ -64,7 +64,7 @@ pub(crate) fn minor_of(numbers: &[u64]) -> [u64; 2]
     }
 }
 
-/// The first two numbers of the minor release behind the one that the numbers begin with.
+/// Returns the first two numbers of the minor release after the one with which the numbers begin.
 pub(crate) fn next_minor(numbers: &[u64]) -> Result<[u64; 2], RangeError>
     ensures { Raises (λ next. next) result (last_raised (minor_of numbers.now)) }
 {
@@ -75,7 +75,7 @@ pub(crate) fn next_minor(numbers: &[u64]) -> Result<[u64; 2], RangeError>
     }
 }
 
-/// Whether all numbers are 0.
+/// Returns whether all numbers are 0.
 pub(crate) fn are_zeros(numbers: &[u64]) -> bool
     ensures { result ≡ list_all is_zero numbers.now }
 {

@@ -15,12 +15,15 @@ use pep440_version::Version;
 use std::alloc::Global;
 use version_ranges::Ranges;
 
-/// The full versions for which `python_version` compares so (PEP 508, "Environment Markers"): its values are
-/// the first two numbers of the full version, so that `python_version > '3.8'` begins at 3.9, and
-/// `python_version == '3.8.1'` holds nowhere.
+/// Returns the full versions for which this comparison of `python_version` holds (PEP 508, "Environment
+/// Markers"): its values are the first two numbers of the full version, so that `python_version > '3.8'`
+/// begins at 3.9, and `python_version == '3.8.1'` holds nowhere.
 ///
-/// `NumberAtEnd` where the set is bounded by a release whose last number would be past 64 bits. Goes a fixed
-/// number of times through the specifier's version. Takes memory for the bounds.
+/// Goes a fixed number of times through the specifier's version. Takes memory for the bounds.
+///
+/// # Errors
+/// `NumberAtEnd` where the set is bounded by a release whose last number would be past 64 bits; `Memory`
+/// where memory ran out.
 pub fn python_version_range(
     alloc: Global,
     specifier: &VersionSpecifier,
@@ -36,7 +39,7 @@ pub fn python_version_range(
     }
 }
 
-/// Compared with one number or two.
+/// Returns the full versions for a comparison with one number or two.
 fn python_range(
     alloc: Global,
     specifier: &VersionSpecifier,
@@ -59,7 +62,7 @@ fn python_range(
     }
 }
 
-/// Compared with three numbers or more, which no value has.
+/// Returns the full versions for a comparison with three numbers or more, which no value has.
 fn python_range_past(
     alloc: Global,
     operator: Operator,

@@ -16,35 +16,35 @@ use std::alloc::Global;
 use std::ops::Bound;
 use version_ranges::Ranges;
 
-/// No version.
+/// Returns the set of no version.
 pub(crate) fn nowhere(alloc: Global) -> Result<Ranges<Version>, RangeError>
     ensures { Gives result (Some nowhere) }
 {
     Ok(Ranges::empty(alloc))
 }
 
-/// All versions.
+/// Returns the set of all versions.
 pub(crate) fn everywhere(alloc: Global) -> Result<Ranges<Version>, RangeError>
     ensures { Gives result (Some everywhere) }
 {
     Ok(Ranges::full(alloc)?)
 }
 
-/// The version and what comes behind it.
+/// Returns the set from the version on, the version included.
 pub(crate) fn from(alloc: Global, version: Version) -> Result<Ranges<Version>, RangeError>
     ensures { Gives result (Some (from_bound (Included version))) }
 {
     Ok(Ranges::higher_than(alloc, version)?)
 }
 
-/// What comes before a version.
+/// Returns the set of what is below a version.
 pub(crate) fn below(alloc: Global, version: Version) -> Result<Ranges<Version>, RangeError>
     ensures { Gives result (Some (to_bound (Excluded version))) }
 {
     Ok(Ranges::strictly_lower_than(alloc, version)?)
 }
 
-/// A version and what comes behind it, as far as another version.
+/// Returns the set from a version on, up to and without another version.
 pub(crate) fn up_to(
     alloc: Global,
     first: Version,
@@ -56,7 +56,7 @@ pub(crate) fn up_to(
     Ok(Ranges::from_range_bounds(alloc, bounds)?)
 }
 
-/// What a set holds, or what it does not hold.
+/// Returns a set, or its complement where `negated`; an error is passed on.
 pub(crate) fn negated(
     alloc: Global,
     negated: bool,
@@ -77,7 +77,7 @@ pub(crate) fn negated(
     }
 }
 
-/// What one of two sets holds.
+/// Returns the union of two sets.
 pub(crate) fn either(
     alloc: Global,
     set: &Ranges<Version>,

@@ -1,4 +1,4 @@
--- Sets that are true and false between boundaries, and where several of them are true.
+-- Sets that are true and false between endpoints, and where several of them are true.
 use Rattle.std.specs.Prelude.{◌≡◌, Bool, true, not, cond, ◌&&◌, List, [], ◌∷◌, map}
 use Rattle.std.specs.Bool.{beq}
 use Rattle.std.specs.declared.cmp.Ordering.{Ordering}
@@ -14,11 +14,11 @@ abbrev pub all_true : List Bool → Bool
 all_true [] = true
 all_true (b ∷ bs) = b && all_true bs
 
--- what is true at a point
+-- the truth at a point
 abbrev pub truth_at : {T : Type 0} → (T → T → Ordering) → Truths T → Point T → Bool
 truth_at cmp truths p = branch_at cmp truths.first truths.later.items p
 
--- truths between the same boundaries
+-- truths between the same endpoints
 pub record AreSame {T : Type 0} (copy truths : Truths T) : Type 0 where
   pub first : copy.first ≡ truths.first
   pub later : copy.later.items ≡ truths.later.items
@@ -27,7 +27,7 @@ pub record AreSame {T : Type 0} (copy truths : Truths T) : Type 0 where
 abbrev pub both_true : Bool × Bool → Bool
 both_true pair = pair.0 && pair.1
 
--- branches that are true where both of a pair are; neighbours that are the same stand once
+-- branches that are true where both of a pair are; equal neighbours are joined
 abbrev pub met : {T : Type 0} → Bool → List (Branch T (Bool × Bool)) → List (Branch T Bool)
 met last [] = []
 met last (branch ∷ later) =
@@ -44,7 +44,7 @@ truth_in negated child = flips negated (not child.negated)
 abbrev pub truth_branch : {T : Type 0} → Bool → Branch T Tree → Branch T Bool
 truth_branch negated branch = record { boundary = branch.boundary; child = truth_in negated branch.child }
 
--- what is true from each boundary of a source on
+-- the truth from each endpoint of a source on
 abbrev pub source_later : {T : Type 0} → Source T → List (Branch T Bool)
 source_later source = map (truth_branch source.negated) source.later.now
 
@@ -56,7 +56,7 @@ pub record AreLent {T : Type 0} (truths : Truths T) (source : Source T) : Type 0
   pub first : truths.first ≡ source.first
   pub later : truths.later.items ≡ source_later source
 
--- the boundaries rise, and behind each stands the other truth
+-- the endpoints rise, and from each of them on the truth is the other one
 pub record IsLeaf {T : Type 0} (cmp : T → T → Ordering) (source : Source T) : Type 0 where
   pub rises : RisingBranches cmp source.later.now
   pub differ : NeighboursDiffer source.first (source_later source)

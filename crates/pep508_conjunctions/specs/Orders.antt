@@ -1,4 +1,4 @@
--- Trees with the places of the variables that they ask first.
+-- Trees with the places of the variables that they test first.
 use Rattle.std.specs.Prelude.{ℕ, List, slice_index_or}
 use Rattle.pep508_tree.specs.Tree.{Tree, always}
 use Rattle.pep508_conjunctions.specs.declared.order.Placed.{Placed}

@@ -1,4 +1,4 @@
--- Trees that ask for one key alone, and where many trees hold.
+-- Trees that test one key and nothing else, and where many trees hold.
 use Rattle.std.specs.Prelude.{◌≡◌, Bool, List, map}
 use Rattle.std.specs.declared.cmp.Ordering.{Ordering}
 use Rattle.version_ranges.specs.Point.{Point}

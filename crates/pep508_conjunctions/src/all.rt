@@ -1,4 +1,9 @@
 //! Conjunctions of many trees.
+//!
+//! Trees of one key become one node: their boundaries are merged by halves, borrowed from the nodes, and
+//! only the node of all of them is made. Joined two at a time, each half on each level would be a node that
+//! is kept, with copies of its boundaries. Where trees test several keys the conjunctions of both halves
+//! are made and joined, and a half may be of one key again.
 
 ghost use Rattle.std.specs.Prelude.{◌≡◌, ◌<◌, length, IfOk, IfSome};
 ghost use Rattle.std.specs.List.{AllByRecursion};
@@ -18,7 +23,7 @@ use pep508_marker::MarkerValueString;
 use pep508_tree::{Interner, MarkerTree, TreeNode, uncounted_conjunction};
 use std::alloc::{AllocError, Global};
 
-/// Where all of the trees hold, if each asks for a key's version alone.
+/// Returns where all of the trees hold, if each tests this key's version and nothing else.
 fn version_truths(
     alloc: Global,
     interner: &Interner,
@@ -38,7 +43,7 @@ fn version_truths(
     Ok(Some(copy))
 }
 
-/// Where all of the trees hold, if each asks for a key's text alone.
+/// Returns where all of the trees hold, if each tests this key's text and nothing else.
 fn text_truths(
     alloc: Global,
     interner: &Interner,
@@ -58,7 +63,7 @@ fn text_truths(
     Ok(Some(copy))
 }
 
-/// The tree that holds where all of the trees do, if each asks for a key's version alone.
+/// Returns the conjunction of the trees, if each tests this key's version and nothing else.
 fn of_versions(
     alloc: Global,
     interner: &mut Interner,
@@ -81,7 +86,7 @@ fn of_versions(
     Ok(Some(tree))
 }
 
-/// The tree that holds where all of the trees do, if each asks for a key's text alone.
+/// Returns the conjunction of the trees, if each tests this key's text and nothing else.
 fn of_texts(
     alloc: Global,
     interner: &mut Interner,
@@ -104,7 +109,7 @@ fn of_texts(
     Ok(Some(tree))
 }
 
-/// A key that trees may ask for alone.
+/// A key that may be all that some trees test.
 #[derive(Clone, Copy)]
 enum Key {
     Versions(VersionVariable),
@@ -112,7 +117,7 @@ enum Key {
     Neither,
 }
 
-/// The key that the first tree asks for first.
+/// Returns the key that the first tree tests first.
 fn first_key(interner: &Interner, trees: &[MarkerTree]) -> Key
     requires { AllByRecursion (IsTree interner.now.nodes) trees.now }
 {
@@ -126,7 +131,7 @@ fn first_key(interner: &Interner, trees: &[MarkerTree]) -> Key
     }
 }
 
-/// The tree that holds where all of the trees do, if all ask for one key alone.
+/// Returns the conjunction of the trees, if all test one key and nothing else.
 fn of_one_key(
     alloc: Global,
     interner: &mut Interner,
@@ -147,7 +152,7 @@ fn of_one_key(
     }
 }
 
-/// The tree that holds where the one tree does that there is, if there is one.
+/// Returns the conjunction of one tree, or of none.
 fn of_one(interner: &Interner, trees: &[MarkerTree], negated: bool) -> MarkerTree
     requires made { AllByRecursion (IsTree interner.now.nodes) trees.now }
     requires few { length trees.now < 2 }
@@ -162,7 +167,7 @@ fn of_one(interner: &Interner, trees: &[MarkerTree], negated: bool) -> MarkerTre
     }
 }
 
-/// Whether each tree asks for one flag alone.
+/// Returns whether each tree tests one flag and nothing else.
 fn are_flags(interner: &Interner, trees: &[MarkerTree]) -> bool
     requires { AllByRecursion (IsTree interner.now.nodes) trees.now }
 {
@@ -175,7 +180,7 @@ fn are_flags(interner: &Interner, trees: &[MarkerTree]) -> bool
     true
 }
 
-/// The tree that holds where all of the trees do: the last with the one before it, and so on to the first.
+/// Returns the conjunction of the trees, joined one by one from the last to the first.
 fn from_behind(
     alloc: Global,
     interner: &mut Interner,
@@ -198,9 +203,9 @@ fn from_behind(
     Ok(whole)
 }
 
-/// The tree that holds where all of the trees do. Those of one key become one node. Where each asks for one
-/// flag, the last are joined first, so that n flags in their order make n nodes. Else the conjunctions of
-/// both halves are made, and then theirs.
+/// Returns the conjunction of the trees. Those of one key become one node. Where each tests one flag, the
+/// last are joined first, so that n flags in their order make n nodes. Otherwise the conjunctions of both
+/// halves are made, and then theirs.
 fn by_halves(
     alloc: Global,
     interner: &mut Interner,
@@ -229,16 +234,17 @@ fn by_halves(
     uncounted_conjunction(alloc, interner, first, second)
 }
 
-/// How many trees are joined in the order in which they stand.
+/// Up to this many trees are joined in the given order, without sorting them by their variables.
 const FEW: usize = 4;
 
-/// The tree that holds where all of the trees do, or where all their negations do if the flag is set; without
-/// trees the one that always holds. The only refusal is want of memory, and earlier trees mean what they
-/// meant, refused or not. Counts nothing.
+/// Returns the tree that holds where all of the trees do, or where all their negations do if `negated`; the
+/// tree that always holds where there are none. The only error is lack of memory, and earlier trees keep
+/// their meaning, also after an error. Counts nothing.
 ///
-/// Where all ask for one key alone, n boundaries take O(n log n) comparisons, and one node is made. Else the
-/// trees are put in the order of the variables that they ask first, and of those that ask for one key, or for
-/// one flag each, one node a variable is made; of others the conjunctions of both halves, and then theirs.
+/// Where all test one key and nothing else, n endpoints take O(n log n) comparisons, and one node is made.
+/// Otherwise the trees are sorted by the variables that they test first, and of those that test one key, or
+/// one flag each, one node for each variable is made; of others the conjunctions of both halves, and then
+/// theirs.
 pub fn conjunction_of_all(
     alloc: Global,
     interner: &mut Interner,

@@ -1,4 +1,4 @@
-//! Values that are lent, in place of copies.
+//! Borrowed values, in place of copies.
 
 ghost use Rattle.std.specs.Prelude.{◌≡◌, refl};
 ghost use Rattle.std.specs.Ordering.{eq_by_cmp, as_partial_cmp};
@@ -9,7 +9,7 @@ use std::alloc::{AllocError, Global};
 use std::cmp::Ordering;
 use std::marker::Model;
 
-/// A value that a node owns. Compares as that value does, and contracts see it as the value.
+/// A borrowed value that a node owns. Compares as that value does, which is its model in contracts.
 #[derive(Drop)]
 pub(crate) struct LentValue<'a, T> {
     value: &'a T,
@@ -22,13 +22,14 @@ impl<'a, T> Model for LentValue<'a, T> {
 }
 
 impl<'a, T> LentValue<'a, T> {
+    /// Returns the borrowed value as a value of nodes.
     pub fn new(value: &'a T) -> LentValue<'a, T>
         ensures { result ≡ value.now }
     {
         LentValue { value }
     }
 
-    /// The value.
+    /// Returns the value.
     pub fn value(&self) -> &T
         ensures { result.now ≡ self.now }
     {

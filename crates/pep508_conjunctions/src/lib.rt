@@ -1,5 +1,7 @@
-//! Conjunctions of many marker trees. Trees that ask for one key alone become one node, in one pass by halves
-//! over their boundaries; of the others two at a time are joined.
+//! Conjunctions of many marker trees. Trees that test one key and nothing else become one node, in one pass
+//! by halves over their endpoints; the others are joined two at a time.
+//!
+//! The crate is apart from `pep508_tree` because that one is near its greatest size.
 #![tactic(auto)]
 
 mod all;

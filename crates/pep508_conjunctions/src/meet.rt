@@ -1,4 +1,4 @@
-//! Where several sets hold together, of which each is true and false between boundaries.
+//! Intersections of several sets that are given by a truth from each endpoint on.
 
 ghost use Rattle.std.specs.Prelude.{◌≡◌, ◌&&◌, IfOk, map};
 ghost use Rattle.std.specs.List.{AllByRecursion};
@@ -12,15 +12,15 @@ use pep508_diagram::{Branch, NodeValue, paired};
 use std::alloc::{AllocError, Global};
 use version_ranges::Boundary;
 
-/// What is true below all boundaries, and from each of them on.
+/// A truth below all endpoints, and from each of them on.
 #[derive(Drop)]
 pub(crate) struct Truths<T> {
     pub first: bool,
     pub later: Vec<Branch<T, bool>>,
 }
 
-/// Branches between the same boundaries that are true where both of a pair are. Neighbours that are the same
-/// are joined.
+/// Returns branches between the same endpoints that are true where both of a pair are. Equal neighbours are
+/// joined.
 fn met<T: Drop>(
     alloc: Global,
     first: bool,
@@ -49,7 +49,7 @@ fn both(a: bool, b: bool) -> bool
     a && b
 }
 
-/// Where both are true: one pass over both, which copies each boundary once.
+/// Returns where both are true: one pass over both, which copies each endpoint once.
 fn meet<T: NodeValue>(alloc: Global, a: &Truths<T>, b: &Truths<T>) -> Result<Truths<T>, AllocError>
     requires rising { RisingBranches T.cmp a.now.later.items }
     requires other_rising { RisingBranches T.cmp b.now.later.items }
@@ -64,7 +64,7 @@ fn meet<T: NodeValue>(alloc: Global, a: &Truths<T>, b: &Truths<T>) -> Result<Tru
     Ok(Truths { first, later })
 }
 
-/// The boundary with its value lent.
+/// Returns the endpoint with its value borrowed.
 fn lent<'a, T>(boundary: &'a Boundary<T>) -> Boundary<LentValue<'a, T>>
     ensures { result ≡ boundary.now }
 {
@@ -74,7 +74,7 @@ fn lent<'a, T>(boundary: &'a Boundary<T>) -> Boundary<LentValue<'a, T>>
     }
 }
 
-/// The truths of constant children, of which the boundaries are lent.
+/// Returns the truths of constant children, with borrowed endpoints.
 fn lent_truths<'a, T>(
     alloc: Global,
     source: &Source<'a, T>,
@@ -94,7 +94,7 @@ fn lent_truths<'a, T>(
     })
 }
 
-/// Where all of several sets of constant children are true, joined by halves.
+/// Returns where all of several sets of constant children are true, joined by halves.
 pub(crate) fn meet_all<'a, T: NodeValue>(
     alloc: Global,
     sources: &[Source<'a, T>],

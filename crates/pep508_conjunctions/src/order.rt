@@ -1,4 +1,10 @@
-//! Trees in the order of the variables that they ask first.
+//! Sorting trees by the variables that they test first.
+//!
+//! Many trees are sorted by their first variable before they are halved, so that those of one key stand
+//! together. Flags are one below another in a tree: where each tree tests one, the last are joined first,
+//! and each makes one node above those after it, where halves in any order make n log n. A sort is known
+//! only to move trees, and the conjunction of moved trees is the same, so nothing has to be proved of the
+//! order. Four trees or fewer are not sorted.
 
 ghost use Rattle.std.specs.Prelude.{◌≡◌, IfOk, IsPermutation, map};
 ghost use Rattle.std.specs.List.{AllByRecursion};
@@ -9,7 +15,7 @@ use pep508_diagram::{VersionVariable, text_rank};
 use pep508_tree::{Interner, MarkerTree, TreeNode};
 use std::alloc::{AllocError, Global};
 
-/// The place of the variable that a tree asks first, and the tree's index.
+/// The rank and the text of the variable that a tree tests first, and the tree's index.
 #[derive(Clone, Copy)]
 pub(crate) struct Placed<'a> {
     pub rank: u8,
@@ -17,7 +23,7 @@ pub(crate) struct Placed<'a> {
     pub index: usize,
 }
 
-/// The place of the variable that the tree asks first, of which the text is lent by the interner.
+/// Returns the place of the variable that the tree tests first; its text is borrowed from the interner.
 fn first_place<'a>(interner: &'a Interner, tree: MarkerTree, index: usize) -> Placed<'a>
     requires { IsTree interner.now.nodes tree }
     ensures { result.index ≡ index }
@@ -32,7 +38,7 @@ fn first_place<'a>(interner: &'a Interner, tree: MarkerTree, index: usize) -> Pl
     Placed { rank, text, index }
 }
 
-/// The places of the variables that trees ask first.
+/// Returns the places of the variables that trees test first.
 fn first_places<'a>(
     alloc: Global,
     interner: &'a Interner,
@@ -48,7 +54,7 @@ fn first_places<'a>(
     Ok(places)
 }
 
-/// The tree of an index; the one that always holds where there is none.
+/// Returns the tree of an index; the tree that always holds where there is none.
 fn tree_at(trees: &[MarkerTree], index: usize) -> MarkerTree
     ensures { result ≡ tree_at trees.now index }
 {
@@ -58,7 +64,7 @@ fn tree_at(trees: &[MarkerTree], index: usize) -> MarkerTree
     }
 }
 
-/// The trees of places.
+/// Returns the trees of places.
 fn trees_of<'a>(
     alloc: Global,
     trees: &[MarkerTree],
@@ -73,7 +79,7 @@ fn trees_of<'a>(
     Ok(moved)
 }
 
-/// The same trees, those first that ask for the first variables.
+/// Returns the trees sorted by the variables that they test first.
 pub(crate) fn in_order(
     alloc: Global,
     interner: &Interner,

@@ -1,4 +1,4 @@
-//! Truths between boundaries that are lent, with boundaries of their own, and as constant trees.
+//! Truths with endpoints of their own instead of borrowed ones, and as constant trees.
 
 ghost use Rattle.std.specs.Prelude.{◌≡◌, IfOk, map};
 ghost use Rattle.pep508_tree.specs.Tree.{constant};
@@ -12,7 +12,7 @@ use pep508_tree::MarkerTree;
 use std::alloc::{AllocError, Global};
 use version_ranges::Boundary;
 
-/// A copy of a boundary, the very same.
+/// Returns an identical copy of an endpoint.
 fn owned_boundary<'a, T: NodeValue>(
     alloc: Global,
     boundary: &Boundary<LentValue<'a, T>>,
@@ -25,7 +25,7 @@ fn owned_boundary<'a, T: NodeValue>(
     })
 }
 
-/// The same with copies of the boundaries.
+/// Returns the truths with copies of the endpoints.
 pub(crate) fn owned<'a, T: NodeValue>(
     alloc: Global,
     truths: &Truths<LentValue<'a, T>>,
@@ -45,7 +45,7 @@ pub(crate) fn owned<'a, T: NodeValue>(
     })
 }
 
-/// The tree that always holds, or never does.
+/// Returns the tree that always holds, or the one that never does.
 pub(crate) fn constant(truth: bool) -> MarkerTree
     ensures { result ≡ constant truth }
 {
@@ -56,7 +56,7 @@ pub(crate) fn constant(truth: bool) -> MarkerTree
     }
 }
 
-/// The branches with constant trees.
+/// Returns the branches with constant trees in place of truths.
 pub(crate) fn constants<T: Drop>(
     alloc: Global,
     later: Vec<Branch<T, bool>>,

@@ -1,4 +1,4 @@
-//! Trees that ask for one key alone, by what their nodes lend.
+//! Trees that test one key and nothing else, as borrowed parts of their nodes.
 
 ghost use Rattle.std.specs.Prelude.{◌≡◌, IsTrue, IfOk, IfSome};
 ghost use Rattle.std.specs.List.{AllByRecursion};
@@ -16,8 +16,8 @@ use pep508_marker::MarkerValueString;
 use pep508_tree::{Interner, MarkerTree, TreeNode};
 use std::alloc::{AllocError, Global};
 
-/// Constant trees between boundaries that a node lends, each negated where the flag is set; of the first
-/// there is its truth.
+/// Constant trees between borrowed endpoints of a node, each negated where `negated`; the first is given by
+/// its truth.
 #[derive(Drop)]
 pub(crate) struct Source<'a, T> {
     pub first: bool,
@@ -25,14 +25,14 @@ pub(crate) struct Source<'a, T> {
     pub negated: bool,
 }
 
-/// The truth of a constant tree, negated where the flag is set.
+/// Returns the truth of a constant tree, negated where `negated`.
 pub(crate) fn truth_in(negated: bool, tree: MarkerTree) -> bool
     ensures { result ≡ truth_in negated tree }
 {
     tree.is_negated() == negated
 }
 
-/// Whether each child is a constant tree.
+/// Returns whether each child is a constant tree.
 fn are_constant<T>(first: MarkerTree, later: &[Branch<T, MarkerTree>]) -> bool
     ensures { IsTrue result → AllBranches (λ child. child.place ≡ 0) first later.now }
 {
@@ -62,7 +62,7 @@ fn is_same(a: VersionVariable, b: VersionVariable) -> bool
     }
 }
 
-/// What a tree's node lends, if it asks for a key's version alone.
+/// Returns the borrowed parts of a tree's node, if the tree tests this key's version and nothing else.
 fn version_source<'a>(
     interner: &'a Interner,
     key: VersionVariable,
@@ -88,7 +88,7 @@ fn version_source<'a>(
     }
 }
 
-/// What a tree's node lends, if it asks for a key's text alone.
+/// Returns the borrowed parts of a tree's node, if the tree tests this key's text and nothing else.
 fn text_source<'a>(
     interner: &'a Interner,
     key: MarkerValueString,
@@ -114,7 +114,7 @@ fn text_source<'a>(
     }
 }
 
-/// What the nodes of trees lend, if each asks for a key's version alone.
+/// Returns the borrowed parts of the trees' nodes, if each tests this key's version and nothing else.
 pub(crate) fn version_sources<'a>(
     alloc: Global,
     interner: &'a Interner,
@@ -137,7 +137,7 @@ pub(crate) fn version_sources<'a>(
     Ok(Some(sources))
 }
 
-/// What the nodes of trees lend, if each asks for a key's text alone.
+/// Returns the borrowed parts of the trees' nodes, if each tests this key's text and nothing else.
 pub(crate) fn text_sources<'a>(
     alloc: Global,
     interner: &'a Interner,

@@ -1,4 +1,4 @@
--- What stands between the places of an order: a first thing, and others from rising boundaries on.
+-- Children between the places of an order: a first one, and others from rising endpoints on.
 use Rattle.std.specs.Prelude.{◌≡◌, Bool, not, cond, List, [], ◌∷◌, map}
 use Rattle.std.specs.declared.cmp.Ordering.{Ordering}
 use Rattle.version_ranges.specs.declared.boundary.Boundary.{Boundary}
@@ -7,17 +7,17 @@ use Rattle.version_ranges.specs.Point.{Point, point_cmp}
 use Rattle.version_ranges.specs.Turns.{reaches, Rising}
 use Rattle.pep508_diagram.specs.declared.branch.Branch.{Branch}
 
--- the boundaries rise
+-- the endpoints rise
 abbrev pub RisingBranches : {T C : Type 0} → (T → T → Ordering) → List (Branch T C) → Type 0
 RisingBranches cmp later = Rising (boundary_cmp cmp) (map (λ branch. branch.boundary) later)
 
--- what stands at a point: what the last boundary at or before it has, and else the first
+-- the child at a point: that of the last endpoint at or before it, and else the first
 abbrev pub branch_at : {T C : Type 0} → (T → T → Ordering) → C → List (Branch T C) → Point T → C
 branch_at cmp first [] p = first
 branch_at cmp first (branch ∷ later) p =
     cond (reaches (point_cmp cmp) (point_of branch.boundary) p) (branch_at cmp branch.child later p) first
 
--- what stands last
+-- the last child
 abbrev pub last_child : {T C : Type 0} → C → List (Branch T C) → C
 last_child first [] = first
 last_child first (branch ∷ later) = last_child branch.child later
@@ -32,7 +32,7 @@ abbrev pub AllBranches : {T C : Type 0} → (C → Type 0) → C → List (Branc
 AllBranches P first [] = P first
 AllBranches P first (branch ∷ later) = P first × AllBranches P branch.child later
 
--- true and false by turns, from each boundary on the other one
+-- true and false in alternation, from each endpoint on the other one
 abbrev pub by_turns : {T : Type 0} → Bool → List (Boundary T) → List (Branch T Bool)
 by_turns first [] = []
 by_turns first (boundary ∷ later) =

@@ -1,5 +1,5 @@
--- Diagrams that stand between boundaries: where they begin, that neighbours differ, and when two such lists
--- are one.
+-- Diagrams between endpoints: where they begin, that neighbours differ, and when two such lists are
+-- alike.
 use Rattle.std.specs.Prelude.{◌≡◌, ℕ, List, [], ◌∷◌}
 use Rattle.std.specs.declared.cmp.Ordering.{Ordering}
 use Rattle.std.specs.declared.cmp.Ordering.TheVariants.{Less, Equal}
@@ -9,7 +9,7 @@ use Rattle.pep508_diagram.specs.Text.{text_cmp}
 use Rattle.pep508_diagram.specs.Diagram.{Diagram, Leaf, Test, Asking, IsAlike}
 use Rattle.pep508_diagram.specs.Question.{Question, place_of}
 
--- a diagram asks first of a variable behind the place of another
+-- a diagram first tests a variable after the place of another
 abbrev pub RootBehind : List ℕ → Diagram Question → Type 0
 RootBehind place (Leaf b) = Unit {0}
 RootBehind place (Test q low high) = text_cmp place (place_of q) ≡ Less
@@ -21,7 +21,7 @@ module _ {T C Q V : Type 0} (ask : Asking Q V) (at : C → Diagram Q) where
   NeighboursApart first (branch ∷ later) =
       (IsAlike ask (at first) (at branch.child) → ⊥) × NeighboursApart branch.child later
 
-  -- as many branches, with boundaries that are equal and diagrams that are one, each with each
+  -- equally many branches, with equal endpoints and diagrams that are alike, each with each
   abbrev pub AreSameBranches : (T → T → Ordering) → C → List (Branch T C) → C → List (Branch T C) → Type 0
   AreSameBranches cmp first [] other_first [] = IsAlike ask (at first) (at other_first)
   AreSameBranches cmp first [] other_first (other ∷ other_later) = ⊥

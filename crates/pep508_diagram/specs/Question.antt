@@ -1,6 +1,6 @@
--- What marker trees ask of environments and extras (PEP 508, "Environment Markers"): whether the version or
--- the text that a key stands for lies below a boundary; and of texts that stand in one another and of extras
--- whether they do, and are there.
+-- The questions of marker trees about environments and extras (PEP 508, "Environment Markers"): whether the
+-- version or the text of a key lies below an endpoint; and whether texts occur in one another, and extras
+-- are present.
 use Rattle.std.specs.Prelude.{◌≡◌, ℕ, ◌+◌, ◌==◌, Bool, true, false, not, cond, List, [], ◌∷◌}
 use Rattle.std.specs.declared.cmp.Ordering.{Ordering}
 use Rattle.std.specs.Ordering.{is_eq, on, then_cmp}
@@ -21,7 +21,7 @@ use Rattle.pep508_diagram.specs.declared.variable.Flag.TheVariants.{In, Contains
 use Rattle.pep508_diagram.specs.Text.{text_cmp}
 use Rattle.pep508_diagram.specs.Diagram.{Diagram, Asking, truth_by, IsAlike, IsCanonicalBy}
 
--- a question: the version, or the text, lies below a boundary; the flag is set
+-- a question: the version, or the text, lies below an endpoint; the flag is set
 pub data Question : Type 0 where
   VersionBelow : VersionVariable → Boundary VersionRecord → Question
   TextBelow : MarkerValueString → Boundary (List ℕ) → Question
@@ -34,8 +34,8 @@ pub record Valuation : Type 0 where
   pub text : MarkerValueString → Point (List ℕ)
   pub flag : Flag → Bool
 
--- ---- the order of variables: keys of versions, keys of texts, texts that the key's text stands in, texts
--- that stand in it, names of extras, and other texts of extras
+-- ---- the order of variables: keys of versions, keys of texts, texts in which the key's text occurs, texts
+-- that occur in it, names of extras, and other texts of extras
 
 abbrev pub version_rank : VersionVariable → ℕ
 version_rank ImplementationVersion = 0
@@ -77,7 +77,7 @@ text_boundaries (VersionBelow key boundary) = []
 text_boundaries (TextBelow key boundary) = boundary ∷ []
 text_boundaries (IsSet flag) = []
 
--- the order of questions: by their variables, and then by their boundaries
+-- the order of questions: by their variables, and then by their endpoints
 unfoldable pub question_cmp : Question → Question → Ordering
 question_cmp =
     then_cmp (on place_of text_cmp)
@@ -90,7 +90,7 @@ shares_variable q r = is_eq (text_cmp (place_of q) (place_of r))
 
 -- ---- answers
 
--- whether a point lies below a boundary
+-- whether a point lies below an endpoint
 abbrev pub lies_below : {T : Type 0} → (T → T → Ordering) → Point T → Boundary T → Bool
 lies_below cmp p boundary = not (reaches (point_cmp cmp) (point_of boundary) p)
 
@@ -111,13 +111,13 @@ abbrev pub with_flag : Valuation → Flag → Bool → Valuation
 with_flag v flag b =
     record v { flag = λ f. cond (is_eq (text_cmp (flag_place flag) (flag_place f))) b (v.flag f) }
 
--- the question's variable below all of its boundaries, or set
+-- the question's variable below all of its endpoints, or set
 unfoldable pub below_all : Valuation → Question → Valuation
 below_all v (VersionBelow key boundary) = with_version v key BelowAll
 below_all v (TextBelow key boundary) = with_text v key BelowAll
 below_all v (IsSet flag) = with_flag v flag true
 
--- the question's variable at its boundary, or not set
+-- the question's variable at its endpoint, or not set
 unfoldable pub at_place : Valuation → Question → Valuation
 at_place v (VersionBelow key boundary) = with_version v key (point_of boundary)
 at_place v (TextBelow key boundary) = with_text v key (point_of boundary)
@@ -139,15 +139,16 @@ marker = record {
 abbrev pub truth : Diagram Question → Valuation → Bool
 truth = truth_by marker
 
--- two diagrams are one, up to the spelling of equal versions
+-- two diagrams are identical, up to the spelling of equal versions
 abbrev pub AreOne : Diagram Question → Diagram Question → Type 0
 AreOne = IsAlike marker
 
--- the questions rise along each path, and none is asked in vain
+-- the questions rise along each path, and none is needless
 abbrev pub IsCanonical : Diagram Question → Type 0
 IsCanonical = IsCanonicalBy marker
 
--- canonical diagrams with one truth under every valuation are one
+-- canonical diagrams with one truth under every valuation are identical, up to the spelling of equal
+-- versions
 abbrev pub OneDiagram : Type 0
 OneDiagram = (d e : Diagram Question) → IsCanonical d → IsCanonical e →
     ((v : Valuation) → truth d v ≡ truth e v) → AreOne d e

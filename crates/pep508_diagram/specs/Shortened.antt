@@ -1,5 +1,5 @@
--- Versions in their shortest spelling (PEP 440, "Final releases"): of those that are equal, one, and the same
--- place to bound a set.
+-- Versions in their shortest spelling (PEP 440, "Final releases"): one of those that are equal, and the
+-- same place to bound a set.
 use Rattle.std.specs.Prelude.{◌≡◌, ℕ, List, Option, Some, None}
 use Rattle.std.specs.List.{AllByRecursion}
 use Rattle.version_ranges.specs.declared.boundary.Boundary.{Boundary}
@@ -12,13 +12,13 @@ use Rattle.pep508_diagram.specs.Diagram.{Diagram}
 use Rattle.pep508_diagram.specs.Question.{Question, VersionBelow, TextBelow, IsSet}
 use Rattle.pep508_diagram.specs.Questions.{AllQuestions}
 
--- a post-release beside `most`, above which it can't stand: none where `most` is there
+-- the post-release, except with `most`, with which it means nothing
 abbrev pub post_beside : Option ℕ → Option ℕ → Option ℕ
 post_beside (Some number) post = None
 post_beside None post = post
 
--- the version without the zeros at its release's end, down to one number, and without a post-release that
--- `most` stands above
+-- the version without the zeros at its release's end, down to one number, and without a post-release where
+-- `most` is there
 abbrev pub shortest : VersionRecord → VersionRecord
 shortest version =
     record version {
@@ -26,7 +26,7 @@ shortest version =
       post = post_beside version.most version.post;
     }
 
--- the boundary at the shortest spelling
+-- the endpoint at the shortest spelling
 abbrev pub shortened : Boundary VersionRecord → Boundary VersionRecord
 shortened (At version) = At (shortest version)
 shortened (JustAbove version) = JustAbove (shortest version)
@@ -37,7 +37,7 @@ shortened_branch branch = record branch { boundary = shortened branch.boundary }
 abbrev pub IsShort : Boundary VersionRecord → Type 0
 IsShort boundary = shortened boundary ≡ boundary
 
--- each boundary is at a shortest spelling
+-- each endpoint is at a shortest spelling
 abbrev pub AllShort : {C : Type 0} → List (Branch VersionRecord C) → Type 0
 AllShort later = AllByRecursion (λ branch. IsShort branch.boundary) later
 
@@ -46,6 +46,6 @@ AsksOfShort (VersionBelow key boundary) = IsShort boundary
 AsksOfShort (TextBelow key boundary) = Unit {0}
 AsksOfShort (IsSet flag) = Unit {0}
 
--- no other version stands in a question of the diagram
+-- each version in the diagram's questions is in its shortest spelling
 abbrev pub HasShortVersions : Diagram Question → Type 0
 HasShortVersions = AllQuestions AsksOfShort

@@ -1,4 +1,4 @@
-//! What stands between rising boundaries.
+//! Branches: what holds between rising endpoints.
 
 ghost use Rattle.std.specs.Prelude.{◌≡◌, [], IfOk, MatchOption};
 ghost use Rattle.version_ranges.specs.Point.{Point, At};
@@ -11,14 +11,14 @@ use std::alloc::{AllocError, Global};
 use std::cmp::Ordering;
 use version_ranges::Boundary;
 
-/// What stands from a boundary on, up to the next one.
+/// The child of a node from an endpoint on, up to the next one.
 #[derive(Drop)]
 pub struct Branch<T, C> {
     pub boundary: Boundary<T>,
     pub child: C,
 }
 
-/// What stands at a value. Compares as many boundaries as the logarithm of their number.
+/// Returns the child at a value. Compares as many endpoints as the logarithm of their number.
 pub fn branch_at<T: Ord, C: Copy>(first: C, later: &[Branch<T, C>], value: &T) -> C
     requires { RisingBranches T.cmp later.now }
     ensures { result ≡ branch_at T.cmp first later.now (At value.now) }
@@ -30,12 +30,12 @@ pub fn branch_at<T: Ord, C: Copy>(first: C, later: &[Branch<T, C>], value: &T) -
     }
 }
 
-/// What stands at a place, and the branches behind it.
+/// The child at a place, and the branches after it.
 type Rest<'a, T, C> = (C, &'a [Branch<T, C>]);
 
-/// The first boundary of two rising lists of branches; and of each list what stands from it on, and what is
-/// left behind it. Where both begin with boundaries that are equal, it is the first list's. `None` where both
-/// are empty. Compares two boundaries at most.
+/// Returns the least endpoint of two rising lists of branches; and for each list the child from that
+/// endpoint on, and the branches after it. Where both begin with equal endpoints, it is the first list's.
+/// `None` where both are empty. Makes at most one comparison of endpoints.
 fn next_branch<'a, T: Ord, C: Copy>(
     first: C,
     later: &'a [Branch<T, C>],
@@ -66,7 +66,7 @@ fn next_branch<'a, T: Ord, C: Copy>(
     }
 }
 
-/// A copy of a boundary, the very same.
+/// Returns an identical copy of an endpoint.
 pub(crate) fn copy_of<T: NodeValue>(
     alloc: Global,
     boundary: &Boundary<T>,
@@ -79,8 +79,8 @@ pub(crate) fn copy_of<T: NodeValue>(
     })
 }
 
-/// Two lists of branches as one of pairs: at each point stands what stands there in the first and in the
-/// second. One pass over both, which copies each boundary once.
+/// Merges two lists of branches into one of pairs: at each point the child is the pair of the first list's
+/// child and the second's. One pass over both, which copies each endpoint once.
 pub fn paired<T: NodeValue, C: Copy>(
     alloc: Global,
     first: C,
@@ -117,8 +117,8 @@ pub fn paired<T: NodeValue, C: Copy>(
     Ok(pairs)
 }
 
-/// The pairs of what stands in two lists of branches, in turn: the children of what `paired` gives. One pass
-/// over both, which copies no boundary.
+/// Returns the pairs of the children of two lists of branches, in order: the children of `paired`'s result.
+/// One pass over both, which copies no endpoint.
 pub fn paired_children<T: Ord, C: Copy>(
     alloc: Global,
     first: C,

@@ -1,5 +1,5 @@
-//! Sets as branches: true and false by turns, from each boundary on the other one; and branches whose
-//! boundaries are at versions in their shortest spelling.
+//! Sets as branches whose children alternate between true and false; and branches whose endpoints are at
+//! versions in their shortest spelling.
 
 ghost use Rattle.std.specs.Prelude.{◌≡◌, IfOk, map};
 ghost use Rattle.pep508_diagram.specs.Branches.{by_turns};
@@ -11,8 +11,8 @@ use pep440_version::Version;
 use std::alloc::{AllocError, Global};
 use version_ranges::Boundary;
 
-/// The branches of a set that holds the point below all, or does not, and at each of whose boundaries
-/// membership turns. Copies each boundary once.
+/// Returns the branches of a set that holds the point below all where `starts_held`, and at each of whose
+/// endpoints membership flips. Copies each endpoint once.
 pub fn turned_branches<T: NodeValue>(
     alloc: Global,
     starts_held: bool,
@@ -32,7 +32,7 @@ pub fn turned_branches<T: NodeValue>(
     Ok(branches)
 }
 
-/// The version in its shortest spelling.
+/// Returns the version in its shortest spelling.
 fn shortest(version: Version) -> Version
     ensures { result ≡ shortest version }
 {
@@ -43,7 +43,7 @@ fn shortest(version: Version) -> Version
     }
 }
 
-/// The boundary at its version's shortest spelling.
+/// Returns the endpoint at its version's shortest spelling.
 fn shortened(boundary: Boundary<Version>) -> Boundary<Version>
     ensures { result ≡ shortened boundary }
 {
@@ -53,8 +53,8 @@ fn shortened(boundary: Boundary<Version>) -> Boundary<Version>
     }
 }
 
-/// The branches with each boundary at its version's shortest spelling, which is the same place. Copies no
-/// version. The only refusal is want of memory.
+/// Returns the branches with each endpoint at its version's shortest spelling, which is the same place.
+/// Copies no version. The only error is lack of memory.
 pub fn shortened_branches<C: Drop>(
     alloc: Global,
     later: Vec<Branch<Version, C>>,

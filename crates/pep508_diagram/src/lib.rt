@@ -1,5 +1,9 @@
-//! Decision diagrams over environment markers (PEP 508, "Environment Markers"): definitions and laws.
 #![tactic(auto)]
+//! Decision diagrams over environment markers (PEP 508, "Environment Markers"): definitions and laws.
+//!
+//! A marker tree means a decision diagram over questions. That canonical diagrams of one meaning are one is
+//! proved of anything that answers questions in a lawful way (`Asking`, `IsAsking`), and then taken for
+//! markers. A flag is a variable with one question, so Boolean nodes need no case of their own.
 
 mod branch;
 mod by_turns;

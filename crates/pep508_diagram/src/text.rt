@@ -1,4 +1,7 @@
 //! Texts that compare by their bytes.
+//!
+//! Texts of nodes have a type of their own, which contracts see as its bytes: a `String` has a capacity
+//! too, and a copy has to be the very same value.
 
 ghost use Rattle.std.specs.Prelude.{◌≡◌, IfOk, refl};
 ghost use Rattle.std.specs.Str.{bytes_eq};
@@ -12,8 +15,8 @@ use std::alloc::{AllocError, Global};
 use std::cmp::Ordering;
 use std::marker::Model;
 
-/// A text of a marker: a bound of a key, a text that stands in another, or an extra that is no name.
-/// Compares by its bytes, and contracts see it as these.
+/// A text of a marker: a bound of a key, a text that is searched for in another, or an extra that is not a
+/// name. Compares by its bytes, which are its model in contracts.
 #[derive(Drop)]
 pub struct MarkerText {
     text: String,
@@ -29,7 +32,7 @@ impl Model for MarkerText {
 }
 
 impl MarkerText {
-    /// A copy of a text.
+    /// Returns a copy of a text.
     pub fn copy_of(alloc: Global, text: &str) -> Result<MarkerText, AllocError>
         ensures { IfOk result (λ copy. copy ≡ text.now) }
     {
@@ -38,6 +41,7 @@ impl MarkerText {
         })
     }
 
+    /// Returns the text.
     pub fn as_str(&self) -> &str
         ensures { result.now ≡ self.now }
     {

@@ -1,13 +1,13 @@
-//! What may bound the branches of a node.
+//! Values that may bound the branches of a node.
 
 ghost use Rattle.std.specs.Prelude.{◌≡◌, IfOk};
 
 use pep440_version::Version;
 use std::alloc::{AllocError, Global};
 
-/// A value that may bound the branches of a node: it has a total order, and a copy that is the very same.
+/// A value that may bound the branches of a node: it has a total order, and an identical copy.
 pub trait NodeValue: Ord + Drop {
-    /// A copy, the same in all that can be seen of it. The only refusal is want of memory.
+    /// Returns a copy, the same in all that can be seen of it. The only error is lack of memory.
     fn copied(&self, alloc: Global) -> Result<Self, AllocError>
         ensures { IfOk result (λ copy. copy ≡ self.now) };
 }

@@ -1,4 +1,9 @@
 //! The variables of marker trees.
+//!
+//! Variables are ordered by a number and a text (`place_of`): keys of versions 0 and 1, keys of texts 2 to
+//! 15, `in` from 16, containment from 30, extras 44, extras that are no names 45. A new text key has to
+//! move these. `python_version` is no variable, and a node's key is a type with two values, so that no tree
+//! can test it.
 
 ghost use Rattle.std.specs.Prelude.{◌≡◌, IfOk};
 ghost use Rattle.pep508_marker.specs.Keys.{text_key_rank};
@@ -10,7 +15,7 @@ use pep508_marker::MarkerValueString;
 use pep508_name::ExtraName;
 use std::alloc::{AllocError, Global};
 
-/// A variable whose values are versions. What is asked of `python_version` is asked of `python_full_version`.
+/// A variable whose values are versions. Comparisons of `python_version` are made of `python_full_version`.
 #[derive(Clone, Copy, Debug, PartialEq, Eq, PartialOrd, Ord, Hash)]
 pub enum VersionVariable {
     /// `implementation_version`
@@ -22,13 +27,13 @@ pub enum VersionVariable {
 /// A variable that is set or not.
 #[derive(Drop)]
 pub enum Flag {
-    /// The key's text stands in this text, as `os_name in 'posix'`.
+    /// The key's text occurs in this text, as `os_name in 'posix'`.
     In(MarkerValueString, MarkerText),
-    /// This text stands in the key's text, as `'x' in os_name`.
+    /// This text occurs in the key's text, as `'x' in os_name`.
     Contains(MarkerValueString, MarkerText),
-    /// The extra of this name is asked for.
+    /// The extra of this name is requested.
     Extra(ExtraName),
-    /// An extra of this text, which is no name: no environment has it.
+    /// An extra of this text, which is not a name: no environment has it.
     Arbitrary(MarkerText),
 }
 
@@ -38,7 +43,7 @@ fn text_key_rank(key: MarkerValueString) -> u8
     key as u8
 }
 
-/// The place of a key whose values are texts among the kinds of variables and their keys.
+/// Returns the rank of a key whose values are texts among the kinds of variables and their keys.
 pub fn text_rank(key: MarkerValueString) -> u8
     ensures { result ≡ text_rank key }
 {
@@ -46,7 +51,7 @@ pub fn text_rank(key: MarkerValueString) -> u8
 }
 
 impl Flag {
-    /// The place of the flag's kind and key among the kinds of variables and their keys.
+    /// Returns the rank of the flag's kind and key among the kinds of variables and their keys.
     pub fn rank(&self) -> u8
         ensures { result ≡ flag_rank self.now }
     {
@@ -58,7 +63,7 @@ impl Flag {
         }
     }
 
-    /// The text that the flag is about.
+    /// Returns the text that the flag is about.
     pub fn text(&self) -> &str
         ensures { result.now ≡ flag_text self.now }
     {
@@ -70,7 +75,7 @@ impl Flag {
         }
     }
 
-    /// A copy. The only refusal is want of memory.
+    /// Returns a copy. The only error is lack of memory.
     pub fn try_clone(&self, alloc: Global) -> Result<Flag, AllocError>
         ensures { IfOk result (λ copy. copy ≡ self.now) }
     {

@@ -25,9 +25,9 @@ abbrev pub with_pairs : List TreePair → List (Tree × Tree) → List TreePair
 with_pairs left [] = left
 with_pairs left (pair ∷ pairs) = with_pairs (insert_key pair_cmp left (asked_of pair)) pairs
 
--- pairs that are left after one was taken out and what stands in it was put in: they are the interner's,
--- they come before it where those did that were left, and they are disjoint exactly where these and the
--- pair are
+-- the pairs that are left after one was removed and the pairs of its children were added: they are the
+-- interner's, they come before it where those did that were left, and they are disjoint exactly where these
+-- and the pair are
 pub record Replaced (nodes : List NodeRecord) (asked : TreePair) (old new : List TreePair) : Type 0 where
   pub made : AllByRecursion (IsAsked nodes) old → AllByRecursion (IsAsked nodes) new
   pub apart : (IsApart nodes asked × AllByRecursion (IsApart nodes) old) ↔ AllByRecursion (IsApart nodes) new

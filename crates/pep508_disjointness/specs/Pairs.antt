@@ -1,4 +1,4 @@
--- Pairs of what stands in two trees.
+-- Pairs of the children of two trees.
 use Rattle.std.specs.Prelude.{◌↔◌, ◌+◌, ◌<◌, Bool, List}
 use Rattle.std.specs.List.{AllByRecursion}
 use Rattle.pep508_tree.specs.Tree.{Tree}
@@ -10,7 +10,7 @@ use Rattle.pep508_tree.specs.Disjoint.{AreDisjoint}
 abbrev pub turned_pair : Bool → Bool → Tree × Tree → Tree × Tree
 turned_pair first second pair = (turned first pair.0, turned second pair.1)
 
--- pairs of what stands in two trees: they are trees that were made earlier, and the two trees are disjoint
+-- pairs of the children of two trees: they are trees that were made earlier, and the two trees are disjoint
 -- exactly where those of each pair are
 pub record ArePaired (nodes : List NodeRecord) (a b : Tree) (pairs : List (Tree × Tree)) : Type 0 where
   pub made : AllByRecursion (λ pair. IsTree nodes pair.0 × IsTree nodes pair.1) pairs

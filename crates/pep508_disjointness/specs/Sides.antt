@@ -1,4 +1,4 @@
--- What stands in a tree for each answer about a variable, and its pairs with what stands in a node.
+-- The children of a tree for each value of a variable, and their pairs with those of a node.
 use Rattle.std.specs.Prelude.{◌≡◌, Bool, List, map}
 use Rattle.pep508_tree.specs.Tree.{Tree}
 use Rattle.pep508_tree.specs.Meaning.{NodeOf, NodeRecord}
@@ -9,11 +9,11 @@ use Rattle.pep508_tree.specs.Roots.{IsRoot}
 use Rattle.pep508_disjointness.specs.declared.pairing.Side.{Side}
 use Rattle.pep508_disjointness.specs.Pairs.{turned_pair}
 
--- a node of the variable, with what stands in the side
+-- a node of the variable, with the children of the side
 abbrev pub with_side : NodeRecord → Side → NodeRecord
 with_side node side = counterpart node side.first side.versions.now side.texts.now side.second
 
--- the side has what stands in a node, which with the side's sign is the tree's
+-- the side has the children of a node, which with the side's negation is the tree's
 pub record ShowsNode (nodes : List NodeRecord) (tree : Tree) (side : Side) : Type 0 where
   pub node : NodeRecord
   pub root : IsRoot nodes tree (signed side.negated node)
@@ -22,8 +22,8 @@ pub record ShowsNode (nodes : List NodeRecord) (tree : Tree) (side : Side) : Typ
   pub texts_are : side.texts.now ≡ text_branches node
   pub second_is : side.second ≡ second_child node
 
--- the pairs are, with signs, those of what stands in a node, which with its sign is the tree's, and in the
--- side
+-- the pairs are, with negations, those of the children of a node, which with its negation is the tree's,
+-- and of the side
 pub record AreSidePairs (nodes : List NodeRecord) (tree : Tree) (side : Side) (pairs : List (Tree × Tree))
     : Type 0 where
   pub negated : Bool

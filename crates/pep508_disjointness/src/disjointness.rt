@@ -1,4 +1,9 @@
-//! Whether two trees never hold together, as a call on them.
+//! Whether two trees never hold together, as a trait of trees.
+//!
+//! The pairs that are left are one ordered set, by the sum of their two places, from which the last is
+//! removed until none is left: what is in a pair has a lesser sum, so no pair comes again, nothing else is
+//! remembered and no stack is used. That the walk ends is shown by a number for each pair
+//! (`proofs/Ranks.antt`). Only borrowed nodes are read (`MarkerTree::node`), so this is a crate of its own.
 
 ghost use Rattle.std.specs.Prelude.{◌≡◌, ◌↔◌, ◌<◌, IsTrue, List, MatchOption, IfOk, OnOk, true};
 ghost use Rattle.pep508_tree.specs.Tree.{Tree};
@@ -12,7 +17,7 @@ use pep508_tree::{Interner, MarkerTree, TreePair};
 use std::alloc::{AllocError, Global};
 use std::collections::BTreeSet;
 
-/// Whether two trees are disjoint of which one is constant, or that are one tree or its negation.
+/// Returns whether two trees are disjoint, where one is constant, or they are one tree or its negation.
 fn plain_disjointness(a: MarkerTree, b: MarkerTree) -> Option<bool>
     ensures { MatchOption result ((0 < a.place) × (0 < b.place)) (λ apart. (nodes : List NodeRecord) →
         AreSound nodes → IsTree nodes a → IsTree nodes b → IsTrue apart ↔ AreDisjoint nodes a b) }
@@ -29,7 +34,7 @@ fn plain_disjointness(a: MarkerTree, b: MarkerTree) -> Option<bool>
     Some(a.is_negated() != b.is_negated())
 }
 
-/// Puts pairs among those that are left.
+/// Adds pairs to those left to look at.
 fn add_pairs(left: &mut BTreeSet<TreePair>, pairs: &[Pair]) -> Result<(), AllocError>
     ensures { OnOk result (left.new.keys ≡ with_pairs left.old.keys pairs.now) }
 {
@@ -39,7 +44,8 @@ fn add_pairs(left: &mut BTreeSet<TreePair>, pairs: &[Pair]) -> Result<(), AllocE
     Ok(())
 }
 
-/// Whether a pair may be disjoint. It is so where all that is put among the pairs that are left is.
+/// Returns whether a pair may be disjoint. It is disjoint if all pairs that this adds to those left to look
+/// at are.
 fn look_at(
     alloc: Global,
     interner: &Interner,
@@ -62,8 +68,8 @@ fn look_at(
     }
 }
 
-/// Whether two trees never hold together: what stands in them is put in their place, the pairs of the highest
-/// places first, so that no pair comes again.
+/// Returns whether two trees never hold together: each pair is replaced by the pairs of its children, the
+/// pairs of the highest places first, so that no pair comes again.
 fn are_disjoint(
     alloc: Global,
     interner: &Interner,
@@ -84,19 +90,19 @@ fn are_disjoint(
     Ok(true)
 }
 
-/// Marker trees of which it can be asked whether they hold together.
+/// Marker trees that can be tested for disjointness.
 pub trait MarkerTreeDisjointness {
     ghost use Rattle.pep508_tree.specs.Tree.{Tree};
 
-    /// The tree.
+    /// The tree that a value is.
     ghost tree: { Self → Tree };
 
-    /// Whether no environment and no extras make both trees hold. Makes no tree and counts nothing; the only
-    /// refusal is want of memory for the pairs that were looked at.
+    /// Returns whether no environment and no extras make both trees hold. Makes no tree and counts nothing;
+    /// the only error is lack of memory for the pairs that were looked at.
     ///
-    /// Looks at each pair of a node of the one and a node of the other at most once, the pairs of the highest
-    /// places first, and ends at the first that meets. A pair takes as many steps as its two nodes have
-    /// boundaries, of which none is copied. No recursion, however deep the trees are.
+    /// Looks at each pair of a node of the one and a node of the other at most once, the pairs of the
+    /// highest places first, and ends at the first that can hold together. A pair takes as many steps as
+    /// its two nodes have endpoints, of which none is copied. No recursion, however deep the trees are.
     fn is_disjoint(
         self,
         alloc: Global,

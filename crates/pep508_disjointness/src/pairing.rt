@@ -1,4 +1,7 @@
-//! Pairs of what stands in two trees.
+//! Pairs of the children of two trees.
+//!
+//! Pairs are read off both nodes' branches side by side (`paired_children`). Only a conjunction copies
+//! boundaries (`paired`), since it makes a node of them.
 
 ghost use Rattle.std.specs.Prelude.{◌≡◌, ◌<◌, [], ◌∷◌, false, map, IfOk};
 ghost use Rattle.pep440_version.specs.Order.{version_cmp};
@@ -15,7 +18,7 @@ use pep508_tree::{Interner, MarkerTree, TreeNode};
 use std::alloc::{AllocError, Global};
 use std::cmp::Ordering;
 
-/// What stands in two trees for one answer.
+/// The children of two trees for one value of a variable.
 pub(crate) type Pair = (MarkerTree, MarkerTree);
 
 fn turn_pairs(pairs: &mut [Pair], first: bool, second: bool)
@@ -26,7 +29,7 @@ fn turn_pairs(pairs: &mut [Pair], first: bool, second: bool)
     }
 }
 
-/// Pairs, with the signs of two trees put on them.
+/// Returns the pairs with their first trees negated where `first`, and their second ones where `second`.
 fn turned_pairs(pairs: Vec<Pair>, first: bool, second: bool) -> Vec<Pair>
     ensures { result.items ≡ map (turned_pair first second) pairs.items }
 {
@@ -35,8 +38,8 @@ fn turned_pairs(pairs: Vec<Pair>, first: bool, second: bool) -> Vec<Pair>
     pairs
 }
 
-/// The place of a tree's first variable among the kinds of variables and their keys, and the text that it is
-/// about.
+/// Returns the rank of a tree's first variable among the kinds of variables and their keys, and the text
+/// that it is about.
 fn variable<'a>(interner: &'a Interner, tree: MarkerTree) -> (u8, &'a str)
     requires made { IsTree interner.now.nodes tree }
     requires some { 0 < tree.place }
@@ -51,7 +54,7 @@ fn variable<'a>(interner: &'a Interner, tree: MarkerTree) -> (u8, &'a str)
     }
 }
 
-/// By the variables that are asked first.
+/// Compares two trees by their first variables.
 fn cmp_variables(interner: &Interner, a: MarkerTree, b: MarkerTree) -> Ordering
     requires a { IsTree interner.now.nodes a }
     requires b { IsTree interner.now.nodes b }
@@ -65,7 +68,7 @@ fn cmp_variables(interner: &Interner, a: MarkerTree, b: MarkerTree) -> Ordering
     rank.cmp(&other_rank).then(text.cmp(other_text))
 }
 
-/// What stands in a tree for each answer about a variable, and whether it is to be negated.
+/// The children of a tree for each value of a variable, and whether they are to be negated.
 #[derive(Clone, Copy)]
 pub(crate) struct Side<'a> {
     first: MarkerTree,
@@ -75,7 +78,7 @@ pub(crate) struct Side<'a> {
     negated: bool,
 }
 
-/// The side of a tree that does not ask for the variable.
+/// Returns the side of a tree that does not test the variable.
 fn side_of_tree<'a>(tree: MarkerTree) -> Side<'a>
     ensures first { result.first ≡ tree }
     ensures versions { result.versions.now ≡ [] }
@@ -92,7 +95,7 @@ fn side_of_tree<'a>(tree: MarkerTree) -> Side<'a>
     }
 }
 
-/// The side of a tree that asks for it first.
+/// Returns the side of a tree that tests the variable first.
 fn side_of_node<'a>(interner: &'a Interner, tree: MarkerTree) -> Side<'a>
     requires made { IsTree interner.now.nodes tree }
     requires some { 0 < tree.place }
@@ -124,7 +127,7 @@ fn side_of_node<'a>(interner: &'a Interner, tree: MarkerTree) -> Side<'a>
     }
 }
 
-/// The pairs of what stands in a tree's node and in a side of the same variable, in turn.
+/// Returns the pairs of the children of a tree's node and of a side of the same variable, in order.
 fn pairs_with(
     alloc: Global,
     interner: &Interner,
@@ -166,9 +169,9 @@ fn pairs_with(
     }
 }
 
-/// The pairs of what stands in two trees for each answer about the variable that comes first in them, each
-/// with a tree of the one and a tree of the other. The only refusal is want of memory. Takes as many steps as
-/// the two trees' nodes have boundaries, of which it copies none.
+/// Returns the pairs of the children of two trees for each value of the variable that comes first in them,
+/// each with a tree of the one and a tree of the other. The only error is lack of memory. Takes as many
+/// steps as the two trees' nodes have endpoints, of which it copies none.
 pub(crate) fn pairs(
     alloc: Global,
     interner: &Interner,

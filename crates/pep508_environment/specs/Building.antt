@@ -1,4 +1,4 @@
--- An environment that is made of texts (PEP 508, "Environment Markers").
+-- An environment that is built from texts (PEP 508, "Environment Markers").
 use Rattle.std.specs.Prelude.{ℕ, List, ◌++◌, codes, Option, Some, None, option_map, Result, Ok, Err}
 use Rattle.pep440_version.specs.ErrorPrints.{version_error_text}
 use Rattle.pep440_text.specs.Record.{VersionRecord}
@@ -23,7 +23,7 @@ abbrev pub under : MarkerValueVersion → Result VersionRecord VersionFault
 under key (Ok version) = Ok version
 under key (Err fault) = Err (key, fault)
 
--- the environment of eleven texts, or the first of the three versions that is none, with its fault
+-- the environment of eleven texts, or the first of the three versions that is invalid, with its fault
 unfoldable pub environment_built : MarkerEnvironmentBuilder
     → Result EnvironmentRecord (MarkerValueVersion × VersionFault)
 environment_built b = do
@@ -47,7 +47,7 @@ environment_built b = do
     sys_platform = b.sys_platform.now;
   })
 
--- the key and the fault that an error tells; want of memory tells none
+-- the key and the fault that an error reports; none for lack of memory
 abbrev pub told_build : EnvironmentBuildError → Option (MarkerValueVersion × VersionFault)
 told_build Memory = None
 told_build (Version key error) = option_map (λ fault. (key, fault)) (told_version error)

@@ -1,4 +1,4 @@
--- What a marker environment is as a JSON value, and what refuses one (PEP 508, "Environment Markers").
+-- A marker environment as a JSON value, and why a value is not one (PEP 508, "Environment Markers").
 use Rattle.std.specs.Prelude.{◌≡◌, ℕ, ◌&&◌, Bool, IsTrue, true, false, not, if◌then◌else◌, List, [], ◌∷◌}
 use Rattle.std.specs.Prelude.{◌++◌, codes, Option, Some, None, is_some, option_and_then, Result, Ok, Err}
 use Rattle.std.specs.List.{filter_map}
@@ -37,7 +37,7 @@ pub record EnvironmentRecord : Type 0 where
   pub python_version_text : List ℕ
   pub sys_platform : List ℕ
 
--- the name under which a member stands
+-- the member's name in JSON
 abbrev pub member_name : EnvironmentMember → List ℕ
 member_name ImplementationName = codes "implementation_name"
 member_name ImplementationVersion = codes "implementation_version"
@@ -157,7 +157,7 @@ pub record IsReached (value : Data) (member : EnvironmentMember) : Type 0 where
   pub are_right : filter_map (member_fault value) before ≡ []
   pub is_text : IsTrue (is_some (member_text value member))
 
--- what an error says of a value, if it is not want of memory
+-- the fault that an error reports of a value, unless it is lack of memory
 abbrev pub told_environment : EnvironmentError → Option EnvironmentError
 told_environment Float = Some Float
 told_environment Shape = Some Shape

@@ -1,4 +1,4 @@
--- What keys read in an environment, its JSON value, when environments are equal, and what they feed a hash.
+-- The values that keys read in an environment, its JSON value, its equality, and the input to its hash.
 use Rattle.std.specs.Prelude.{ℕ, Bool, List, [], ◌∷◌, ◌++◌, codes}
 use Rattle.std.specs.Cmp.Lexicographic.{pointwise}
 use Rattle.std.specs.Hash as fed
@@ -71,6 +71,6 @@ environment_eq = eq_of_both (on texts_of (pointwise bytes_eq)) (on versions_of (
 abbrev pub fed_version : VersionRecord → List (List ℕ)
 fed_version version = fed_key (key_of version)
 
--- what a hash is fed of an environment: its texts, then its versions
+-- the input to a hash of an environment: its texts, then its versions
 abbrev pub fed_environment : EnvironmentRecord → List (List ℕ)
 fed_environment e = flat_map fed.str (texts_of e) ++ flat_map fed_version (versions_of e)

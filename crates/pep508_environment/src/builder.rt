@@ -1,4 +1,4 @@
-//! Environments made of texts.
+//! Environments built from texts.
 
 ghost use Rattle.std.specs.Prelude.{◌≡◌, ◌≢◌, IfOk, Some, Err};
 ghost use Rattle.std.specs.String.{string_bytes};
@@ -16,7 +16,7 @@ use std::alloc::{AllocError, Global};
 use std::error::Error;
 use std::fmt;
 
-/// The texts of which `MarkerEnvironment::try_from` makes an environment.
+/// The texts of which `MarkerEnvironment::try_from` builds an environment.
 #[derive(Clone, Copy, Debug, PartialEq, Eq, Hash)]
 pub struct MarkerEnvironmentBuilder<'a> {
     pub implementation_name: &'a str,
@@ -32,12 +32,12 @@ pub struct MarkerEnvironmentBuilder<'a> {
     pub sys_platform: &'a str,
 }
 
-/// Why texts make no environment.
+/// Why no environment can be built from some texts.
 #[derive(Debug, PartialEq, Eq, Drop)]
 pub enum EnvironmentBuildError {
     /// Memory ran out.
     Memory,
-    /// The text of this member is no version, and why; never for want of memory.
+    /// The text of this member is not a version, and why; never for lack of memory.
     Version(MarkerValueVersion, VersionParseError),
 }
 
@@ -67,7 +67,7 @@ impl fmt::Display for EnvironmentBuildError {
 
 impl Error for EnvironmentBuildError {}
 
-/// The version of a text that is to stand under this key.
+/// Reads the version of the member under this key.
 fn named_version(
     alloc: Global,
     key: MarkerValueVersion,
@@ -87,9 +87,12 @@ fn named_version(
 }
 
 impl MarkerEnvironment {
-    /// The environment of these texts, refused for the first of `implementation_version`,
-    /// `python_full_version` and `python_version` that is no version. Takes memory for copies of the texts,
-    /// and none where no number begins `implementation_version`.
+    /// Returns the environment of these texts. Takes memory for copies of the texts, and none where no
+    /// number begins `implementation_version`.
+    ///
+    /// # Errors
+    /// `Version` for the first of `implementation_version`, `python_full_version` and `python_version` that
+    /// is not a version; `Memory` where memory ran out.
     #[tactic(auto, unfolding(crate::specs::Building::environment_built))]
     pub fn try_from(
         alloc: Global,

@@ -14,7 +14,7 @@ use std::alloc::{AllocError, Global};
 use std::hash::{Hash, Hasher};
 
 impl MarkerEnvironment {
-    /// A copy, in memory of its own.
+    /// Returns a copy, in memory of its own.
     pub fn try_clone(&self, alloc: Global) -> Result<MarkerEnvironment, AllocError>
         ensures { IfOk result (λ copy. copy ≡ self.now) }
     {

@@ -1,4 +1,4 @@
-//! Environments.
+//! Environments, and their reading from JSON values.
 
 ghost use Rattle.std.specs.Prelude.{◌≡◌, ◌⊎◌, IfOk, IfErr, IfSome, OnOk, None, Some, Err, IsTrue, is_some};
 ghost use Rattle.std.specs.Prelude.{false, true, option_and_then, option_copied, option_map};
@@ -18,7 +18,7 @@ use serde_json::Value;
 use std::alloc::Global;
 use std::marker::Model;
 
-/// A member, which has to be a text.
+/// Returns the text of a member, which has to be there and a text.
 #[tactic(auto, unfolding(crate::specs::Environment::member_fault))]
 fn member<'a>(value: &'a Value, member: EnvironmentMember) -> Result<&'a str, EnvironmentError>
     ensures ok { IfOk result (λ text. member_text (view value.entry.now) member ≡ Some text.now) }
@@ -33,7 +33,7 @@ fn member<'a>(value: &'a Value, member: EnvironmentMember) -> Result<&'a str, En
     }
 }
 
-/// A copy of a member's text.
+/// Returns a copy of a member's text.
 fn text(alloc: Global, value: &Value, name: EnvironmentMember) -> Result<String, EnvironmentError>
     requires { is_version name ≡ false }
     ensures ok { IfOk result (λ text. member_text (view value.now) name ≡ Some (string_bytes text)) }
@@ -46,7 +46,7 @@ fn text(alloc: Global, value: &Value, name: EnvironmentMember) -> Result<String,
     Ok(String::from_str(alloc, member(value, name)?)?)
 }
 
-/// The version that a member's text is, and the text.
+/// Returns the version that a member's text is, with the text.
 #[tactic(auto, using(pep440_version::proofs::Found::reads_found), unfolding(crate::specs::Environment::member_fault))]
 fn version(
     alloc: Global,
@@ -71,7 +71,7 @@ fn version(
     }
 }
 
-/// What packages are chosen for: an interpreter on a machine (PEP 508, "Environment Markers").
+/// The interpreter and machine for which packages are selected (PEP 508, "Environment Markers").
 #[derive(Drop)]
 pub struct MarkerEnvironment {
     pub(crate) implementation_name: String,
@@ -113,12 +113,15 @@ impl Model for MarkerEnvironment {
 }
 
 impl MarkerEnvironment {
-    /// The environment that a value is (PEP 508, "Environment Markers"): an object with the eleven
-    /// members as texts, of which those on versions read as versions. Other members are passed over.
+    /// Reads an environment from a value (PEP 508, "Environment Markers"): an object with the eleven
+    /// members as texts, of which those for versions are read as versions. Other members are ignored.
     ///
-    /// A float anywhere is refused first, then a value that is no object, then the first member in
-    /// their order that is wrong. Memory is wanted only for a text that is there, so never before a
-    /// fault that stands earlier. Goes once through the value, as deep as it nests.
+    /// Memory is taken only for a text that is there, so never before a fault that comes earlier. Goes once
+    /// through the value, as deep as it nests.
+    ///
+    /// # Errors
+    /// `Float` where there is a float anywhere, then `Shape` where the value is not an object, then the
+    /// first member in their order that is wrong, as `Member` or `Version`; `Memory` where memory ran out.
     #[tactic(auto, unfolding(crate::specs::Environment::environment_of))]
     pub fn from_value(alloc: Global, value: &Value) -> Result<MarkerEnvironment, EnvironmentError>
         ensures answered { Answers (λ environment. environment) told_environment result

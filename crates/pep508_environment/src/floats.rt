@@ -1,4 +1,4 @@
-//! Numbers that are kept as floats.
+//! Finding numbers that are kept as floats.
 
 ghost use Rattle.std.specs.Prelude.{◌≡◌};
 ghost use Rattle.serde_json.specs.Written.{has_float, items_have_float, members_have_float};
@@ -6,7 +6,7 @@ ghost use Rattle.serde_json.specs.View.{view, items_view, members_view};
 
 use serde_json::{Map, Value};
 
-/// Whether a value holds anywhere a number that is kept as a float.
+/// Returns whether a value contains anywhere a number that is kept as a float.
 #[cycle(float)]
 pub fn has_float(value: &Value) -> bool
     ensures { result ≡ has_float (view value.now) }

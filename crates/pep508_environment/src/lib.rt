@@ -1,8 +1,12 @@
-//! Marker environments of Python packages, as PEP 508 has them: what the interpreter is that packages
-//! are chosen for.
-//!
-//! An environment is given as a JSON value. Contracts see a `MarkerEnvironment` as an `EnvironmentRecord`.
 #![tactic(auto)]
+//! Marker environments of Python packages, as PEP 508 has them: the interpreter and machine for which
+//! packages are selected.
+//!
+//! An environment is given as a JSON value. The model of a `MarkerEnvironment` in contracts is an
+//! `EnvironmentRecord`.
+//!
+//! The crate is above `pep508_marker` because `get_string` is given a key; so diagrams and trees need no
+//! JSON.
 
 ghost use Rattle.std.specs.Prelude.{◌≡◌, Some};
 ghost use Rattle.pep508_environment.specs.Environment.{member_name};
@@ -23,7 +27,7 @@ pub use builder::{EnvironmentBuildError, MarkerEnvironmentBuilder};
 pub use environment::MarkerEnvironment;
 pub use string_version::StringVersion;
 
-/// A member of an environment (PEP 508, "Environment Markers"). Prints as the name under which it stands.
+/// A member of an environment (PEP 508, "Environment Markers"). Prints as its name in JSON.
 #[derive(Clone, Copy, Debug, PartialEq, Eq, PartialOrd, Ord, Hash)]
 pub enum EnvironmentMember {
     ImplementationName,
@@ -42,7 +46,7 @@ pub enum EnvironmentMember {
 impl EnvironmentMember {
     ghost use Rattle.pep508_environment.specs.Environment.{member_name};
 
-    /// The name under which the member stands, as `python_full_version`.
+    /// Returns the member's name in JSON, as `python_full_version`.
     pub fn name(self) -> &'static str
         ensures { result.now ≡ member_name self }
     {
@@ -73,16 +77,16 @@ impl fmt::Display for EnvironmentMember {
     }
 }
 
-/// Why a value is no environment.
+/// Why a value is not an environment.
 #[derive(Clone, Copy, Debug, PartialEq, Eq, PartialOrd, Ord, Hash)]
 pub enum EnvironmentError {
-    /// The value holds somewhere a number with a fraction or an exponent, or one that 64 bits don't hold.
+    /// The value contains a number with a fraction or an exponent, or one that doesn't fit 64 bits.
     Float,
-    /// The value is no object.
+    /// The value is not an object.
     Shape,
-    /// The member is missing or no text.
+    /// The member is missing or not a text.
     Member(EnvironmentMember),
-    /// The member's text is no version.
+    /// The member's text is not a version.
     Version(EnvironmentMember),
     /// Memory ran out while reading.
     Memory,

@@ -8,16 +8,16 @@ use crate::{MarkerEnvironment, StringVersion};
 use pep440_version::Version;
 use pep508_marker::{MarkerValueString, MarkerValueVersion};
 
-/// What the members say.
+/// The members' values.
 impl MarkerEnvironment {
-    /// The name of the implementation of Python, as `cpython` (`sys.implementation.name`).
+    /// Returns the name of the implementation of Python, as `cpython` (`sys.implementation.name`).
     pub fn implementation_name(&self) -> &str
         ensures { result.now ≡ self.now.implementation_name }
     {
         &self.implementation_name
     }
 
-    /// The version of the implementation of Python (`sys.implementation.version`).
+    /// Returns the version of the implementation of Python (`sys.implementation.version`).
     pub fn implementation_version(&self) -> &StringVersion
         ensures version { result.now.version ≡ self.now.implementation_version }
         ensures text { string_bytes result.now.string ≡ self.now.implementation_version_text }
@@ -25,21 +25,21 @@ impl MarkerEnvironment {
         &self.implementation_version
     }
 
-    /// The name of the operating system, as `posix` (`os.name`).
+    /// Returns the name of the operating system, as `posix` (`os.name`).
     pub fn os_name(&self) -> &str
         ensures { result.now ≡ self.now.os_name }
     {
         &self.os_name
     }
 
-    /// The kind of machine, as `x86_64` (`platform.machine()`).
+    /// Returns the kind of machine, as `x86_64` (`platform.machine()`).
     pub fn platform_machine(&self) -> &str
         ensures { result.now ≡ self.now.platform_machine }
     {
         &self.platform_machine
     }
 
-    /// The implementation of Python as its platform names it, as `CPython`
+    /// Returns the implementation of Python as its platform names it, as `CPython`
     /// (`platform.python_implementation()`).
     pub fn platform_python_implementation(&self) -> &str
         ensures { result.now ≡ self.now.platform_python_implementation }
@@ -47,28 +47,28 @@ impl MarkerEnvironment {
         &self.platform_python_implementation
     }
 
-    /// The release of the system (`platform.release()`).
+    /// Returns the release of the system (`platform.release()`).
     pub fn platform_release(&self) -> &str
         ensures { result.now ≡ self.now.platform_release }
     {
         &self.platform_release
     }
 
-    /// The system, as `Linux` (`platform.system()`).
+    /// Returns the system, as `Linux` (`platform.system()`).
     pub fn platform_system(&self) -> &str
         ensures { result.now ≡ self.now.platform_system }
     {
         &self.platform_system
     }
 
-    /// The version of the system, which need not be one of PEP 440 (`platform.version()`).
+    /// Returns the version of the system, which need not be one of PEP 440 (`platform.version()`).
     pub fn platform_version(&self) -> &str
         ensures { result.now ≡ self.now.platform_version }
     {
         &self.platform_version
     }
 
-    /// The full version of Python, as `3.11.4` (`platform.python_version()`).
+    /// Returns the full version of Python, as `3.11.4` (`platform.python_version()`).
     pub fn python_full_version(&self) -> &StringVersion
         ensures version { result.now.version ≡ self.now.python_full_version }
         ensures text { string_bytes result.now.string ≡ self.now.python_full_version_text }
@@ -76,7 +76,7 @@ impl MarkerEnvironment {
         &self.python_full_version
     }
 
-    /// The first two numbers of the version of Python, as `3.11`.
+    /// Returns the first two numbers of the version of Python, as `3.11`.
     pub fn python_version(&self) -> &StringVersion
         ensures version { result.now.version ≡ self.now.python_version }
         ensures text { string_bytes result.now.string ≡ self.now.python_version_text }
@@ -84,14 +84,14 @@ impl MarkerEnvironment {
         &self.python_version
     }
 
-    /// The name of the platform, as `linux` (`sys.platform`).
+    /// Returns the name of the platform, as `linux` (`sys.platform`).
     pub fn sys_platform(&self) -> &str
         ensures { result.now ≡ self.now.sys_platform }
     {
         &self.sys_platform
     }
 
-    /// The version that a key reads, in whose place another may be put by `with_` and the key's name.
+    /// Returns the version that a key reads.
     pub fn get_version(&self, key: MarkerValueVersion) -> &Version
         ensures { result.now ≡ version_in self.now key }
     {
@@ -102,7 +102,7 @@ impl MarkerEnvironment {
         }
     }
 
-    /// The text that a key reads; an old name reads what the modern one reads.
+    /// Returns the text that a key reads; an old name reads what the modern one reads.
     pub fn get_string(&self, key: MarkerValueString) -> &str
         ensures { result.now ≡ text_in self.now key }
     {
@@ -129,9 +129,9 @@ impl MarkerEnvironment {
     }
 }
 
-/// The same environment with another member.
+/// Environments with another value of one member.
 impl MarkerEnvironment {
-    /// The same with another `implementation_name`.
+    /// Returns the environment with another `implementation_name`.
     pub fn with_implementation_name(mut self, value: String) -> MarkerEnvironment
         ensures { result ≡ record self { implementation_name = string_bytes value } }
     {
@@ -139,7 +139,7 @@ impl MarkerEnvironment {
         self
     }
 
-    /// The same with another `implementation_version`.
+    /// Returns the environment with another `implementation_version`.
     pub fn with_implementation_version(mut self, value: StringVersion) -> MarkerEnvironment
         ensures { result ≡ record self {
           implementation_version = value.version;
@@ -150,7 +150,7 @@ impl MarkerEnvironment {
         self
     }
 
-    /// The same with another `os_name`.
+    /// Returns the environment with another `os_name`.
     pub fn with_os_name(mut self, value: String) -> MarkerEnvironment
         ensures { result ≡ record self { os_name = string_bytes value } }
     {
@@ -158,7 +158,7 @@ impl MarkerEnvironment {
         self
     }
 
-    /// The same with another `platform_machine`.
+    /// Returns the environment with another `platform_machine`.
     pub fn with_platform_machine(mut self, value: String) -> MarkerEnvironment
         ensures { result ≡ record self { platform_machine = string_bytes value } }
     {
@@ -166,7 +166,7 @@ impl MarkerEnvironment {
         self
     }
 
-    /// The same with another `platform_python_implementation`.
+    /// Returns the environment with another `platform_python_implementation`.
     pub fn with_platform_python_implementation(mut self, value: String) -> MarkerEnvironment
         ensures { result ≡ record self { platform_python_implementation = string_bytes value } }
     {
@@ -174,7 +174,7 @@ impl MarkerEnvironment {
         self
     }
 
-    /// The same with another `platform_release`.
+    /// Returns the environment with another `platform_release`.
     pub fn with_platform_release(mut self, value: String) -> MarkerEnvironment
         ensures { result ≡ record self { platform_release = string_bytes value } }
     {
@@ -182,7 +182,7 @@ impl MarkerEnvironment {
         self
     }
 
-    /// The same with another `platform_system`.
+    /// Returns the environment with another `platform_system`.
     pub fn with_platform_system(mut self, value: String) -> MarkerEnvironment
         ensures { result ≡ record self { platform_system = string_bytes value } }
     {
@@ -190,7 +190,7 @@ impl MarkerEnvironment {
         self
     }
 
-    /// The same with another `platform_version`.
+    /// Returns the environment with another `platform_version`.
     pub fn with_platform_version(mut self, value: String) -> MarkerEnvironment
         ensures { result ≡ record self { platform_version = string_bytes value } }
     {
@@ -198,7 +198,7 @@ impl MarkerEnvironment {
         self
     }
 
-    /// The same with another `python_full_version`.
+    /// Returns the environment with another `python_full_version`.
     pub fn with_python_full_version(mut self, value: StringVersion) -> MarkerEnvironment
         ensures { result ≡ record self {
           python_full_version = value.version;
@@ -209,7 +209,7 @@ impl MarkerEnvironment {
         self
     }
 
-    /// The same with another `python_version`.
+    /// Returns the environment with another `python_version`.
     pub fn with_python_version(mut self, value: StringVersion) -> MarkerEnvironment
         ensures { result ≡ record self {
           python_version = value.version;
@@ -220,7 +220,7 @@ impl MarkerEnvironment {
         self
     }
 
-    /// The same with another `sys_platform`.
+    /// Returns the environment with another `sys_platform`.
     pub fn with_sys_platform(mut self, value: String) -> MarkerEnvironment
         ensures { result ≡ record self { sys_platform = string_bytes value } }
     {

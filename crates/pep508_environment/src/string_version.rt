@@ -1,4 +1,4 @@
-//! Versions with the texts that they were read of.
+//! Versions with the texts that they were read from.
 
 ghost use Rattle.std.specs.Prelude.{◌≡◌, ◌≢◌, IfOk, Some, Err};
 ghost use Rattle.std.specs.String.{string_bytes};
@@ -15,7 +15,7 @@ use serde_json::Value;
 use std::alloc::{AllocError, Global};
 use std::fmt;
 
-/// A version and a text of it, as an interpreter gives both. Prints as the text.
+/// A version and a text of it, as an interpreter reports both. Prints as the text.
 ///
 /// Compares and hashes by both, so that `1.0` and `1` differ here.
 #[derive(Debug, PartialEq, Eq, Hash, Drop)]
@@ -27,7 +27,7 @@ pub struct StringVersion {
 }
 
 impl StringVersion {
-    /// A version with its print as the text. Takes memory for the text.
+    /// Returns a version with its print as the text. Takes memory for the text.
     pub fn from_version(alloc: Global, version: Version) -> Result<StringVersion, AllocError>
         ensures version { IfOk result (λ made. made.version ≡ version) }
         ensures text { IfOk result (λ made. string_bytes made.string ≡ version_text version) }
@@ -39,6 +39,9 @@ impl StringVersion {
     }
 
     /// Reads a version, as `Version::from_str` does, and keeps the text, white space included.
+    ///
+    /// # Errors
+    /// Those of `Version::from_str`; `Memory` too where memory for the text ran out.
     pub fn from_str(alloc: Global, text: &str) -> Result<StringVersion, VersionParseError>
         ensures answered { Answers (λ read. read.version) told_version result (version_reading text.now) }
         ensures text { IfOk result (λ read. string_bytes read.string ≡ text.now) }
@@ -51,7 +54,7 @@ impl StringVersion {
         })
     }
 
-    /// A copy, in memory of its own.
+    /// Returns a copy, in memory of its own.
     pub fn try_clone(&self, alloc: Global) -> Result<StringVersion, AllocError>
         ensures version { IfOk result (λ copy. copy.version ≡ self.now.version) }
         ensures text { IfOk result (λ copy. string_bytes copy.string ≡ string_bytes self.now.string) }
@@ -62,14 +65,17 @@ impl StringVersion {
         })
     }
 
-    /// The text as a JSON text. Takes memory for it.
+    /// Returns the text as a JSON text. Takes memory for it.
     pub fn to_value(&self, alloc: Global) -> Result<Value, AllocError>
         ensures { IfOk result (λ value. as_str (view value) ≡ Some (string_bytes self.now.string)) }
     {
         Ok(Value::String(String::from_str(alloc, self.string.as_str())?))
     }
 
-    /// Reads a JSON text as `from_str` does; another value is refused as `Shape`.
+    /// Reads a version from a JSON text as `from_str` does.
+    ///
+    /// # Errors
+    /// `Shape` where the value is not a text; `Text` with the error of `from_str`, lack of memory too.
     pub fn from_value(
         alloc: Global,
         value: &Value,

@@ -9,8 +9,8 @@ use serde_json::{Value, json};
 use std::alloc::{AllocError, Global};
 
 impl MarkerEnvironment {
-    /// The environment as a JSON value: an object with the eleven members as texts, versions as they were
-    /// given. Takes memory for copies of the texts.
+    /// Returns the environment as a JSON value: an object with the eleven members as texts, versions as
+    /// they were given. Takes memory for copies of the texts.
     pub fn to_value(&self, alloc: Global) -> Result<Value, AllocError>
         ensures { IfOk result (λ value. view value ≡ environment_value self.now) }
     {

@@ -10,7 +10,7 @@ use Rattle.pep508_error.specs.declared.cursor.Cursor.{Cursor}
 abbrev pub rest_of : Cursor → List ℕ
 rest_of cursor = drop cursor.position cursor.input.now
 
--- the characters behind a place
+-- the characters after a place
 abbrev pub behind : Cursor → List ℕ
 behind cursor = chars (rest_of cursor)
 
@@ -18,12 +18,12 @@ behind cursor = chars (rest_of cursor)
 abbrev pub first_len : List ℕ → ℕ
 first_len text = option_map_or len_utf8 (slice_get (chars text) 0) 1
 
--- the place is in the same text, at the other or behind it
+-- the place is in the same text, at the other or after it
 pub record IsBehind (earlier later : Cursor) : Type 0 where
   pub input : later.input.now ≡ earlier.input.now
   pub ordered : earlier.position ≤ later.position
 
--- this text stands at the place
+-- this text is at the place
 pub record IsAt (cursor : Cursor) (text : List ℕ) : Type 0 where
   pub rest : List ℕ
   pub whole : rest_of cursor ≡ text ++ rest

@@ -12,11 +12,11 @@ begins_by test (c ∷ cs) = test c
 abbrev pub cut_before : (ℕ → Bool) → List ℕ → List ℕ × List ℕ
 cut_before test cs = (before_first test cs, drop (position_or_len test cs) cs)
 
--- the same, the first of them as a text
+-- the characters before the first such one, as a text, and those from it on
 abbrev pub encoded_cut : (ℕ → Bool) → List ℕ → List ℕ × List ℕ
 encoded_cut test cs = (encode_utf8_all (cut_before test cs).0, (cut_before test cs).1)
 
--- the text before the first such character and the characters behind it, where there is one
+-- the text before the first such character and the characters after it, where there is one
 abbrev pub cut_around : ℕ → List ℕ → Option (List ℕ × List ℕ)
 cut_around c cs =
     if nat_lt (position_or_len (λ d. d == c) cs) (length cs)

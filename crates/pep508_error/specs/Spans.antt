@@ -2,7 +2,7 @@
 use Rattle.std.specs.Prelude.{◌≡◌, ℕ, ◌+◌, ◌<◌, ◌≤◌, List, length}
 use Rattle.std.specs.Str.{IsCharBoundary}
 
--- so many bytes from a place on, both ends between characters; at the text's end at most the one place behind
+-- `len` bytes from a place on, both ends between characters; at the text's end at most the one place after
 -- it
 pub record IsSpan (input : List ℕ) (start len : ℕ) : Type 0 where
   pub starts : IsCharBoundary input start

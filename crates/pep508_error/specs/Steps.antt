@@ -1,7 +1,7 @@
 -- One reading after another.
 use Rattle.std.specs.Prelude.{Result, Ok, Err}
 
--- what is read next, where the first is not refused
+-- the next reading, unless the first is refused
 infixl 10 ◌>>=◌
 abbrev pub ◌>>=◌ : {A B F : Type 0} → Result A F → (A → Result B F) → Result B F
 (Ok x) >>= next = next x

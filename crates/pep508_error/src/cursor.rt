@@ -1,4 +1,8 @@
-//! A place in a text.
+//! A text and a place in it, for readers.
+//!
+//! A place in a text is a type: a text and a byte offset that is between two characters, by an invariant. A
+//! refusal is made at a place, so its span is right by type. It borrows the text; the copy for the user's
+//! error is made once.
 
 ghost use Rattle.std.specs.Str.{IsCharBoundary};
 
@@ -21,7 +25,7 @@ impl<'a> Cursor<'a> {
     ghost use Rattle.pep508_error.specs.Spans.{IsSpan};
     ghost use Rattle.pep508_error.specs.Refusals.{Refuses};
 
-    /// The beginning of a text.
+    /// Returns a cursor at the beginning of a text.
     pub fn new(input: &'a str) -> Cursor<'a>
         ensures input { result.input.now ≡ input.now }
         ensures rest { rest_of result ≡ input.now }
@@ -29,28 +33,28 @@ impl<'a> Cursor<'a> {
         Cursor { input, position: 0 }
     }
 
-    /// The whole text.
+    /// Returns the whole text.
     pub fn input(self) -> &'a str
         ensures { result.now ≡ self.entry.input.now }
     {
         self.input
     }
 
-    /// How many bytes stand before the place.
+    /// Returns the number of bytes before the place.
     pub fn position(self) -> usize
         ensures { result ≡ self.entry.position }
     {
         self.position
     }
 
-    /// What follows the place.
+    /// Returns the text after the place.
     pub fn rest(self) -> &'a str
         ensures { result.now ≡ rest_of self.entry }
     {
         &self.input[self.position..]
     }
 
-    /// The place so many bytes later, between characters again.
+    /// Returns the place `count` bytes later, which is between characters again.
     pub fn after(self, count: usize) -> Cursor<'a>
         requires { IsCharBoundary (rest_of self) count }
         ensures rest { rest_of result ≡ drop count (rest_of self.entry) }
@@ -62,7 +66,7 @@ impl<'a> Cursor<'a> {
         }
     }
 
-    /// The place behind the white space that follows.
+    /// Returns the place after the white space that follows.
     pub fn after_whitespace(self) -> Cursor<'a>
         ensures rest { chars (rest_of result) ≡ skip_leading_whitespace (chars (rest_of self.entry)) }
         ensures behind { IsBehind self.entry result }
@@ -74,7 +78,7 @@ impl<'a> Cursor<'a> {
         }
     }
 
-    /// The character that follows, if there is one.
+    /// Returns the next character, if there is one.
     pub fn peek(self) -> Option<char>
         ensures cases { MatchOption result (chars (rest_of self.entry) ≡ [])
             (λ c. chars (rest_of self.entry) ≡ c ∷ chars (drop (len_utf8 c) (rest_of self.entry))) }
@@ -84,7 +88,7 @@ impl<'a> Cursor<'a> {
         self.rest().chars().next()
     }
 
-    /// The character that follows and the place behind it, if there is one.
+    /// Returns the next character and the place after it, if there is one.
     pub fn split_first(self) -> Option<(char, Cursor<'a>)>
         ensures cases { MatchOption result (chars (rest_of self.entry) ≡ [])
             (λ found. chars (rest_of self.entry) ≡ found.0 ∷ chars (rest_of found.1)) }
@@ -94,7 +98,7 @@ impl<'a> Cursor<'a> {
         Some((first, self.after(first.len_utf8())))
     }
 
-    /// The place before the character that stands before this one, unless this is the text's beginning.
+    /// Returns the place one character earlier, unless this is the text's beginning.
     pub fn before(self) -> Option<Cursor<'a>>
         ensures cases { MatchOption result (self.entry.position ≡ 0)
             (λ earlier. (c : ℕ) × (rest_of earlier ≡ encode_utf8 c ++ rest_of self.entry)) }
@@ -108,7 +112,7 @@ impl<'a> Cursor<'a> {
         })
     }
 
-    /// The refusal of so many bytes that follow, which end between characters.
+    /// Returns the refusal of the next `len` bytes, which end between characters.
     pub fn refuse(self, len: usize, kind: RefusalKind) -> Refusal<'a>
         requires { IsCharBoundary (rest_of self) len }
         ensures { Refuses result kind self.entry.input.now self.entry.position len }
@@ -121,7 +125,7 @@ impl<'a> Cursor<'a> {
         }
     }
 
-    /// The refusal of the character that follows, or of the text's end where there is none.
+    /// Returns the refusal of the next character, or of the text's end where there is none.
     pub fn refuse_char(self, kind: RefusalKind) -> Refusal<'a>
         ensures { Refuses result kind self.entry.input.now self.entry.position
             (first_len (rest_of self.entry)) }
@@ -134,7 +138,7 @@ impl<'a> Cursor<'a> {
         }
     }
 
-    /// How many bytes the character that follows has; 1 where there is none.
+    /// Returns the number of bytes of the next character; 1 where there is none.
     fn first_len(self) -> usize
         ensures len { result ≡ first_len (rest_of self.entry) }
         ensures span { IsSpan self.entry.input.now self.entry.position result }
@@ -145,7 +149,7 @@ impl<'a> Cursor<'a> {
         }
     }
 
-    /// The refusal of the text's end.
+    /// Returns the refusal of the text's end.
     pub fn refuse_end(self, kind: RefusalKind) -> Refusal<'a>
         ensures { Refuses result kind self.entry.input.now (length self.entry.input.now) 1 }
     {

@@ -1,4 +1,4 @@
-//! The error of a text that is no requirement.
+//! The error of a text that is not a requirement.
 
 use crate::excerpt::Excerpt;
 use crate::{Cursor, Refusal, RefusalKind};
@@ -10,11 +10,11 @@ use std::fmt;
 /// What is wrong with a text.
 #[derive(Debug, Drop)]
 pub enum Pep508ErrorSource<T: Pep508Url> {
-    /// The text is none of its grammar, as this message says.
+    /// The text doesn't match its grammar, as this message says.
     String(String),
-    /// The text of its URL is not taken for one.
+    /// The text of the requirement's URL is not a URL.
     UrlError(T::Err),
-    /// The text stands for what a requirement with a name can't be, as this message says.
+    /// The text is something that a requirement with a name can't be, as this message says.
     UnsupportedRequirement(String),
     /// A version number of the marker can't be raised.
     NumberAtEnd,
@@ -38,7 +38,7 @@ impl<T: Pep508Url> Pep508Error<T> {
     ghost use Rattle.pep508_error.specs.Errors.{fault_at, told_error, told_refusal};
     ghost use Rattle.pep508_error.specs.declared.error.Pep508ErrorSource.TheVariants.{Memory, UrlError};
 
-    /// Want of memory, which is told of no text. Takes none.
+    /// Returns the error of lack of memory, which reports no text. Takes none.
     pub fn memory(alloc: Global) -> Self
         ensures { result.message ≡ Memory }
     {
@@ -52,8 +52,8 @@ impl<T: Pep508Url> Pep508Error<T> {
         }
     }
 
-    /// The error that tells what a reader says. Takes memory for a copy of the text; for want of it the error
-    /// is `Memory`.
+    /// Returns the error that reports a reader's refusal. Takes memory for a copy of the text; where that
+    /// runs out the error is `Memory`.
     pub fn of(alloc: Global, refusal: Refusal<'_>) -> Self
         ensures { IfSome (told_error result) (λ fault. told_refusal refusal.entry ≡ Some fault) }
     {
@@ -80,8 +80,8 @@ impl<T: Pep508Url> Pep508Error<T> {
         }
     }
 
-    /// The error that tells why the text of a URL is not taken for one: so many bytes that follow a place.
-    /// Want of memory is `Memory`, here and for the copy of the text that it takes.
+    /// Returns the error that reports why the text of a URL, the next `len` bytes after a place, is not a
+    /// URL. Where the error is lack of memory, or memory for a copy of the text runs out, it is `Memory`.
     pub fn of_url(alloc: Global, error: T::Err, place: Cursor<'_>, len: usize) -> Self
         requires { IsCharBoundary (rest_of place) len }
         ensures lacks { T.lacks_memory error ≡ true → result.message ≡ Memory }
@@ -104,21 +104,21 @@ impl<T: Pep508Url> Pep508Error<T> {
         }
     }
 
-    /// What is wrong.
+    /// Returns what is wrong.
     pub fn message(&self) -> &Pep508ErrorSource<T>
         ensures { result.now ≡ self.now.message }
     {
         &self.message
     }
 
-    /// The whole text; empty for want of memory.
+    /// Returns the whole text; empty where memory ran out.
     pub fn input(&self) -> &str
         ensures { result.now ≡ string_bytes self.now.excerpt.input }
     {
         self.excerpt.input.as_str()
     }
 
-    /// Where the part at fault begins, in bytes.
+    /// Returns where the part at fault begins, in bytes.
     pub fn start(&self) -> usize
         ensures start { result ≡ self.now.excerpt.start }
         ensures placed { IsSpan (string_bytes self.now.excerpt.input)
@@ -127,7 +127,7 @@ impl<T: Pep508Url> Pep508Error<T> {
         self.excerpt.start
     }
 
-    /// How many bytes it has.
+    /// Returns the length of the part at fault, in bytes.
     pub fn len(&self) -> usize
         ensures { result ≡ self.now.excerpt.len }
     {

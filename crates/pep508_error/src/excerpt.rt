@@ -1,4 +1,8 @@
 //! A text and a part of it.
+//!
+//! The text and the part at fault are one private value with the invariant that the part is on whole
+//! characters. A part at the text's end has length 1 at most and is underlined by one `^`. An error for
+//! lack of memory has the empty text.
 
 ghost use Rattle.std.specs.String.{string_bytes};
 ghost use Rattle.pep508_error.specs.Spans.{IsSpan};
@@ -20,7 +24,7 @@ impl Excerpt {
     ghost use Rattle.underline.specs.Underline.{columns};
     ghost use Rattle.pep508_error.specs.Errors.{marks_under};
 
-    /// The text with the part underlined.
+    /// Returns the text with the part underlined.
     pub(crate) fn underlined(&self) -> Underlined<'_>
         ensures text { result.text.now ≡ string_bytes self.now.input }
         ensures blanks { result.blanks ≡ columns (take self.now.start (string_bytes self.now.input)) }

@@ -1,5 +1,5 @@
-//! What the readers of requirements share (PEP 508): a place in a text, the pieces that are cut off behind
-//! it, why a reader stops there, and the error that shows it.
+//! The common parts of the readers of requirements (PEP 508): a place in a text, the pieces that are split
+//! off after it, why a reader stops there, and the error that shows it.
 #![tactic(auto)]
 
 mod cursor;

@@ -1,4 +1,4 @@
-//! Pieces of the text behind a place, and refusals of them.
+//! Pieces of the text after a place, and refusals of them.
 
 use crate::stop::split;
 use crate::{Cursor, Refusal, RefusalKind, Stop};
@@ -9,7 +9,7 @@ impl<'a> Cursor<'a> {
     ghost use Rattle.pep508_error.specs.Cursors.{rest_of, behind, IsAt, IsBehind};
     ghost use Rattle.pep508_error.specs.Refusals.{IsOf};
 
-    /// The place behind a text that follows.
+    /// Returns the place after a text that follows.
     pub fn pass(self, text: &str) -> Cursor<'a>
         requires { IsAt self text.now }
         ensures whole { rest_of self.entry ≡ text.now ++ rest_of result }
@@ -18,7 +18,7 @@ impl<'a> Cursor<'a> {
         self.after(text.len())
     }
 
-    /// The place behind a character, where that follows.
+    /// Returns the place after a character, where that follows.
     pub fn strip(self, at: char) -> Option<Cursor<'a>>
         ensures parts { MatchOption result (begins_by (λ c. c == at) (behind self.entry) ≡ false)
             (λ later. behind self.entry ≡ at ∷ behind later) }
@@ -30,7 +30,8 @@ impl<'a> Cursor<'a> {
         }
     }
 
-    /// The text before the first character of a kind, and the place of that or of the end.
+    /// Returns the text before the first character of a kind, and the place of that character or of the
+    /// end.
     pub fn cut<S: Stop + Copy>(self, stop: S) -> (&'a str, Cursor<'a>)
         ensures parts { (result.0.now, behind result.1) ≡ encoded_cut (S.stops stop) (behind self.entry) }
         ensures at { IsAt self.entry result.0.now }
@@ -40,7 +41,8 @@ impl<'a> Cursor<'a> {
         (front, self.pass(front))
     }
 
-    /// The text before the first of a character and the place behind that, where there is one.
+    /// Returns the text before the first occurrence of a character and the place after that, where there is
+    /// one.
     pub fn cut_around(self, at: char) -> Option<(&'a str, Cursor<'a>)>
         ensures parts { option_map (λ found. (found.0.now, behind found.1)) result
             ≡ cut_around at (behind self.entry) }
@@ -54,7 +56,7 @@ impl<'a> Cursor<'a> {
         }
     }
 
-    /// The refusal of what stands between this place and a later one.
+    /// Returns the refusal of the text between this place and a later one.
     pub fn refuse_to(self, end: Cursor<'a>, kind: RefusalKind) -> Refusal<'a>
         requires { IsBehind self end }
         ensures kind { result.kind ≡ kind }
@@ -63,7 +65,7 @@ impl<'a> Cursor<'a> {
         self.refuse(end.position() - self.position(), kind)
     }
 
-    /// The refusal of nothing, at this place.
+    /// Returns the refusal of no text, at this place.
     pub fn refuse_none(self, kind: RefusalKind) -> Refusal<'a>
         ensures kind { result.kind ≡ kind }
         ensures of { IsOf self.entry result }

@@ -1,17 +1,17 @@
-//! Why a reader stops.
+//! Why a reader stops: a message, and the part of the text at fault.
 
 ghost use Rattle.pep508_error.specs.Spans.{IsSpan};
 
 use std::alloc::{AllocError, AllocFailed};
 
-/// What a reader has to say of a text that it refuses.
+/// What is wrong with a text that a reader refuses.
 #[derive(Debug, Drop)]
 pub enum RefusalKind {
     /// Memory ran out.
     Memory,
-    /// The text is none of its grammar, as this message says.
+    /// The text doesn't match its grammar, as this message says.
     String(String),
-    /// The text stands for what a requirement with a name can't be, as this message says.
+    /// The text is something that a requirement with a name can't be, as this message says.
     UnsupportedRequirement(String),
     /// A version number of the text can't be raised.
     NumberAtEnd,
@@ -22,7 +22,7 @@ impl RefusalKind {
     ghost use Rattle.pep508_error.specs.declared.refusal.RefusalKind.TheVariants.{Memory, String};
     ghost use Rattle.pep508_error.specs.declared.refusal.RefusalKind.TheVariants.{UnsupportedRequirement};
 
-    /// The message, or want of memory for it.
+    /// Returns a refusal with the message, or `Memory` where there was none for the message.
     pub fn string(message: Result<String, AllocError>) -> RefusalKind
         ensures { MatchResult message (λ text. result ≡ String text) (λ error. result ≡ Memory) }
     {
@@ -32,7 +32,8 @@ impl RefusalKind {
         }
     }
 
-    /// The message that the text can't be a requirement with a name, or want of memory for it.
+    /// Returns a refusal of a text that can't be a requirement with a name, or `Memory` where there was
+    /// none for the message.
     pub fn unsupported(message: Result<String, AllocError>) -> RefusalKind
         ensures { MatchResult message (λ text. result ≡ UnsupportedRequirement text)
             (λ error. result ≡ Memory) }
@@ -59,7 +60,7 @@ impl<'a> Refusal<'a> {
     ghost use Rattle.pep508_error.specs.Spans.{IsSpan};
     ghost use Rattle.pep508_error.specs.declared.refusal.RefusalKind.TheVariants.{Memory};
 
-    /// Want of memory, which is told of no text.
+    /// Returns the refusal for lack of memory, which reports no text.
     pub fn memory() -> Refusal<'a>
         ensures { result.kind ≡ Memory }
     {
@@ -71,21 +72,21 @@ impl<'a> Refusal<'a> {
         }
     }
 
-    /// What the reader says.
+    /// Returns what is wrong.
     pub fn kind(&self) -> &RefusalKind
         ensures { result.now ≡ self.now.kind }
     {
         &self.kind
     }
 
-    /// The whole text.
+    /// Returns the whole text.
     pub fn input(&self) -> &'a str
         ensures { result.now ≡ self.now.input.now }
     {
         self.input
     }
 
-    /// Where the part at fault begins, in bytes.
+    /// Returns where the part at fault begins, in bytes.
     pub fn start(&self) -> usize
         ensures start { result ≡ self.now.start }
         ensures placed { IsSpan self.now.input.now self.now.start self.now.len }
@@ -93,7 +94,7 @@ impl<'a> Refusal<'a> {
         self.start
     }
 
-    /// How many bytes it has.
+    /// Returns the length of the part at fault, in bytes.
     pub fn len(&self) -> usize
         ensures { result ≡ self.now.len }
     {

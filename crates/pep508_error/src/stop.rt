@@ -1,4 +1,7 @@
-//! What ends a piece of a text.
+//! The characters that end a piece of a text.
+//!
+//! What ends a piece is a trait: a character, white space, or a class of characters of the reader's own. So
+//! cutting is written and proved once, for readers of fronts and of comparisons.
 
 ghost use Rattle.std.specs.Prelude.{◌≡◌, ◌++◌};
 ghost use Rattle.std.specs.Str.{chars};
@@ -11,12 +14,12 @@ pub trait Stop {
     /// Which characters are of this kind.
     ghost stops: { Self → ℕ → Bool };
 
-    /// Whether a character is of this kind.
+    /// Returns whether a character is of this kind.
     fn is_at(self, c: char) -> bool
         ensures { result ≡ stops self c };
 }
 
-/// The character itself.
+/// A character ends a piece where it occurs itself.
 impl Stop for char {
     ghost use Rattle.std.specs.Prelude.{◌==◌};
 
@@ -27,7 +30,7 @@ impl Stop for char {
     }
 }
 
-/// White space.
+/// White space as the end of a piece.
 #[derive(Clone, Copy, Debug)]
 pub struct Space;
 
@@ -41,7 +44,7 @@ impl Stop for Space {
     }
 }
 
-/// The text before the first character of a kind, and the text from it on.
+/// Returns the text before the first character of a kind, and the text from it on.
 pub fn split<S: Stop + Copy>(text: &str, stop: S) -> (&str, &str)
     ensures parts { (result.0.now, chars result.1.now) ≡ encoded_cut (S.stops stop) (chars text.now) }
     ensures whole { text.now ≡ result.0.now ++ result.1.now }

@@ -1,4 +1,4 @@
--- The edges of a node of texts, and what they give, up to the one that has a text.
+-- The edges of a node of texts and their warnings, up to the one that contains a text.
 use Rattle.std.specs.Prelude.{ℕ, cond, List, [], ◌∷◌, ◌++◌, Option, Some, None}
 use Rattle.version_ranges.specs.declared.boundary.Boundary.{Boundary}
 use Rattle.version_ranges.specs.Point.{Point}

@@ -12,8 +12,7 @@ use Rattle.pep508_tree.specs.Nodes.{chosen, tree_cmp}
 use Rattle.pep508_tree.specs.Roots.{root_of, IsRoot}
 use Rattle.pep508_evaluation.specs.Valuations.{HasJust}
 
--- what stands at the root of a tree at the valuation, which was made earlier and holds there where the tree
--- does
+-- the child of a tree's root at the valuation, which was made earlier and holds there where the tree does
 pub record GoesDown (nodes : List NodeRecord) (tree : Tree) (v : Valuation) (next : Tree) : Type 0 where
   pub root : NodeRecord
   pub root_is : root_of nodes tree ≡ Some root
@@ -23,12 +22,12 @@ pub record GoesDown (nodes : List NodeRecord) (tree : Tree) (v : Valuation) (nex
   pub falls : next.place < tree.place
   pub same : holds nodes tree v ≡ holds nodes next v
 
--- the answer of a tree without a node, or a tree that has the answer
+-- the truth of a tree without a node, or a tree that has the same truth
 abbrev pub Answers : List NodeRecord → Tree → Valuation → ControlFlow Bool Tree → Type 0
 Answers nodes tree v (Break truth) = (holds nodes tree v ≡ truth) × (root_of nodes tree ≡ None)
 Answers nodes tree v (Continue next) = GoesDown nodes tree v next
 
--- the node asks for no extra
+-- the node does not test an extra
 abbrev pub AsksNoExtra : NodeRecord → Type 0
 AsksNoExtra (Versions key first later) = Unit {0}
 AsksNoExtra (Texts key first later) = Unit {0}
@@ -43,7 +42,7 @@ pub record GoesPast (nodes : List NodeRecord) (extras : List (List ℕ)) (tree n
   pub falls : next.place < tree.place
   pub same : (v : Valuation) → HasJust extras v → holds nodes tree v ≡ holds nodes next v
 
--- what stands in a node, in turn; a constant has none
+-- the children of a node, in order; a constant has none
 abbrev pub children_of : Option NodeRecord → List Tree
 children_of None = []
 children_of (Some node) = children node

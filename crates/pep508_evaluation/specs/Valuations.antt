@@ -17,7 +17,7 @@ use Rattle.pep508_diagram.specs.Question.{Valuation}
 use Rattle.pep508_tree.specs.Tree.{Tree}
 use Rattle.pep508_tree.specs.Meaning.{NodeRecord, holds}
 
--- a text stands somewhere in another one
+-- a text occurs in another one
 abbrev pub stands_in : List ℕ → List ℕ → Bool
 stands_in text [] = starts_with eqb [] text
 stands_in text (byte ∷ bytes) = starts_with eqb (byte ∷ bytes) text || stands_in text bytes
@@ -31,7 +31,7 @@ abbrev pub variable_in : EnvironmentRecord → VersionVariable → VersionRecord
 variable_in environment ImplementationVersion = environment.implementation_version
 variable_in environment PythonFullVersion = environment.python_full_version
 
--- whether a flag is set; no extra has a text that is no name
+-- whether a flag is set; no extra has a text that is not a name
 abbrev pub is_set : EnvironmentRecord → List (List ℕ) → Flag → Bool
 is_set environment extras (In key text) = stands_in (text_in environment key) text
 is_set environment extras (Contains key text) = stands_in text (text_in environment key)

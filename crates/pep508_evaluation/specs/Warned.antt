@@ -1,7 +1,7 @@
--- What is warned of where a tree is evaluated: old names of PEP 345 anywhere in it, and the bounds that
--- texts are compared with on the way to the answer (PEP 508, "Environment Markers"). Tests of one variable
--- in a row, each for where the one before is answered by no, are one node; the texts before its first test,
--- between two of them and from its last one on are its edges.
+-- The warnings of evaluating a tree: old names of PEP 345 anywhere in it, and the bounds that texts are
+-- compared with on the way to the answer (PEP 508, "Environment Markers"). Tests of one variable in a row,
+-- each for where the answer to the one before is no, are one node; the texts before its first test, between
+-- two of them and from its last one on are its edges.
 use Rattle.std.specs.Prelude.{ℕ, Bool, false, cond, List, [], ◌∷◌, ◌++◌, map, Option, Some, None, is_some}
 use Rattle.version_ranges.specs.declared.boundary.Boundary.{Boundary}
 use Rattle.version_ranges.specs.Boundaries.{point_of}
@@ -17,7 +17,7 @@ use Rattle.pep508_diagram.specs.Diagram.{Diagram, Leaf, Test}
 use Rattle.pep508_diagram.specs.Question.{Question, VersionBelow, TextBelow, IsSet, Valuation}
 use Rattle.pep508_diagram.specs.Question.{text_boundaries, shares_variable, answer}
 
--- a test goes on with the node of the test before it
+-- a test belongs to the node of the test before it
 abbrev pub goes_on : Option Question → Question → Bool
 goes_on None q = false
 goes_on (Some before) q = shares_variable before q
@@ -32,7 +32,7 @@ names_of (VersionBelow key boundary) = []
 names_of (TextBelow key boundary) = key_names key
 names_of (IsSet flag) = []
 
--- one warning for each node of an old name, a node's before those of what stands in it
+-- one warning for each node of an old name, a node's before those of its children
 abbrev pub old_names : Option Question → Diagram Question → List MarkerWarningKind
 old_names before (Leaf b) = []
 old_names before (Test q low high) =
@@ -46,18 +46,18 @@ edge lower upper =
     cond (is_some (single_value text_cmp (map point_of (lower ++ upper)))) []
     (map (λ bound. LexicographicComparison) (lower ++ upper))
 
--- the bound at which the test before was answered by no
+-- the bound of the test before, whose answer was no
 abbrev pub passed : Option Question → List (Boundary (List ℕ))
 passed None = []
 passed (Some before) = text_boundaries before
 
--- the edge up to a test, behind the last edge of the node before it, if there is one
+-- the edge up to a test, after the last edge of the node before it, if there is one
 abbrev pub edges_to : Option Question → Question → List MarkerWarningKind
 edges_to before q =
     cond (goes_on before q) (edge (passed before) (text_boundaries q))
     (edge (passed before) [] ++ edge [] (text_boundaries q))
 
--- the edges on the way that a valuation takes, in each node up to the one that has the text
+-- the edges on the way that a valuation selects, in each node up to the one that contains the text
 abbrev pub compared : Valuation → Option Question → Diagram Question → List MarkerWarningKind
 compared v before (Leaf b) = edge (passed before) []
 compared v before (Test q low high) =
@@ -69,6 +69,6 @@ compared v before (Test q low high) =
 abbrev pub warned : Valuation → Diagram Question → List MarkerWarningKind
 warned v d = old_names None d ++ compared v None d
 
--- a warning of this kind was taken, with some text
+-- a warning of this kind was received, with some text
 abbrev pub TakesKind : {P : Type 0} → (P → Warning → P → Type 0) → P → MarkerWarningKind → P → Type 0
 TakesKind takes old kind new = (text : List ℕ) × takes old (record { kind = kind; text = text }) new

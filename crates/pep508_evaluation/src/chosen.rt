@@ -1,4 +1,4 @@
-//! What stands in a node at the valuation of an environment with extras.
+//! The child of a node that an environment with extras selects.
 
 ghost use Rattle.std.specs.Prelude.{◌≡◌};
 ghost use Rattle.version_ranges.specs.Point.{At, point_cmp};
@@ -20,7 +20,7 @@ use pep508_tree::{Children, Interner, MarkerTree, TreeNode};
 use std::ops::ControlFlow;
 use version_ranges::Boundary;
 
-/// Whether a text lies at the boundary or behind it.
+/// Returns whether a text lies at the endpoint or above it.
 pub(crate) fn is_reached(boundary: &Boundary<MarkerText>, text: &str) -> bool
     ensures { result ≡ reaches (point_cmp text_cmp) (point_of boundary.now) (At text.now) }
 {
@@ -30,7 +30,7 @@ pub(crate) fn is_reached(boundary: &Boundary<MarkerText>, text: &str) -> bool
     }
 }
 
-/// What stands at a text. Compares as many boundaries as the logarithm of their number.
+/// Returns the child at a text. Compares as many endpoints as the logarithm of their number.
 fn branch_at_text(
     first: MarkerTree,
     later: &[Branch<MarkerText, MarkerTree>],
@@ -46,7 +46,7 @@ fn branch_at_text(
     }
 }
 
-/// The child at a version.
+/// Returns the child at a version.
 fn version_child(children: Children<Version>, version: &Version) -> MarkerTree
     requires { RisingBranches version_cmp children.later.now }
     ensures { result ≡ turned children.entry.negated
@@ -55,7 +55,7 @@ fn version_child(children: Children<Version>, version: &Version) -> MarkerTree
     branch_at(children.first, children.later, version).turned(children.negated)
 }
 
-/// The child at a text.
+/// Returns the child at a text.
 fn text_child(children: Children<MarkerText>, text: &str) -> MarkerTree
     requires { RisingBranches text_cmp children.later.now }
     ensures { result ≡ turned children.entry.negated
@@ -64,7 +64,7 @@ fn text_child(children: Children<MarkerText>, text: &str) -> MarkerTree
     branch_at_text(children.first, children.later, text).turned(children.negated)
 }
 
-/// The version of a variable.
+/// Returns the version of a variable in an environment.
 fn variable_in(environment: &MarkerEnvironment, key: VersionVariable) -> &Version
     ensures { result.now ≡ variable_in environment.now key }
 {
@@ -74,7 +74,7 @@ fn variable_in(environment: &MarkerEnvironment, key: VersionVariable) -> &Versio
     }
 }
 
-/// Whether a text stands somewhere in another one, by their bytes.
+/// Returns whether a text occurs in another one, by their bytes.
 #[tactic(auto, using(crate::proofs::Standing::contains_is))]
 pub fn stands_in(text: &str, whole: &str) -> bool
     ensures { result ≡ stands_in text.now whole.now }
@@ -82,7 +82,7 @@ pub fn stands_in(text: &str, whole: &str) -> bool
     whole.contains(text)
 }
 
-/// Whether a flag is set.
+/// Returns whether a flag is set.
 fn is_set(environment: &MarkerEnvironment, extras: &[ExtraName], flag: &Flag) -> bool
     ensures { result ≡ is_set environment.now extras.now flag.now }
 {
@@ -94,7 +94,7 @@ fn is_set(environment: &MarkerEnvironment, extras: &[ExtraName], flag: &Flag) ->
     }
 }
 
-/// The answer of a constant tree, and else the child that answers.
+/// Returns the truth of a constant tree, or else the child that the environment selects.
 #[tactic(auto, using(crate::proofs::Choosing::goes_by_versions, crate::proofs::Choosing::goes_by_texts, crate::proofs::Choosing::goes_by_flag))]
 pub(crate) fn step(
     tree: MarkerTree,
@@ -120,7 +120,7 @@ pub(crate) fn step(
     }
 }
 
-/// Whether a tree holds in an environment with extras.
+/// Returns whether a tree holds in an environment with extras.
 pub(crate) fn evaluate(
     tree: MarkerTree,
     interner: &Interner,

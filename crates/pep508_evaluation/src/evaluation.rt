@@ -1,4 +1,8 @@
-//! What trees answer, as calls on them.
+//! The evaluation of marker trees, as a trait of trees.
+//!
+//! The calls are a trait whose ghost member sees the type as a tree. A borrowed node (`TreeNode`) is
+//! matched where it is obtained and never passed on by reference: the borrow checker knows no module of the
+//! stored children then.
 
 ghost use Rattle.std.specs.Prelude.{◌≡◌, ◌↔◌, IsTrue, IfOk, IfErr, OnOk, map, option_copied, None};
 ghost use Rattle.std.specs.List.{FoldsTo};
@@ -17,19 +21,19 @@ use pep508_name::ExtraName;
 use pep508_tree::{Interner, MarkerTree};
 use std::alloc::{AllocError, Global};
 
-/// What a marker tree answers for environments and extras (PEP 508, "Environment Markers").
+/// The evaluation of a marker tree for environments and extras (PEP 508, "Environment Markers").
 pub trait MarkerTreeEvaluation {
     ghost use Rattle.pep508_tree.specs.Tree.{Tree};
 
-    /// The tree.
+    /// The tree that a value is.
     ghost tree: { Self → Tree };
 
-    /// Whether the tree holds in an environment with extras. Takes no memory. Of each node on the way from
-    /// the root it compares as many boundaries as the logarithm of their number, or looks through one text,
-    /// or through the extras.
+    /// Returns whether the tree holds in an environment with extras. Takes no memory. At each node on the
+    /// way from the root it compares as many endpoints as the logarithm of their number, or looks through
+    /// one text, or through the extras.
     ///
-    /// What is asked of `python_version` is asked of `python_full_version`: the environment's
-    /// `python_version` is not looked at.
+    /// Tests of `python_version` are made of `python_full_version`: the environment's `python_version` is
+    /// not looked at.
     fn evaluate(
         self,
         interner: &Interner,
@@ -39,7 +43,7 @@ pub trait MarkerTreeEvaluation {
         requires { IsTree interner.now.nodes (tree self) }
         ensures { result ≡ holds interner.now.nodes (tree self) (valuation_of environment.now extras.now) };
 
-    /// `evaluate` where there is an environment, which takes no memory, and else `evaluate_extras`.
+    /// Returns `evaluate` where there is an environment, which takes no memory, and else `evaluate_extras`.
     fn evaluate_optional_environment(
         self,
         alloc: Global,
@@ -52,11 +56,12 @@ pub trait MarkerTreeEvaluation {
             (AnswersIn interner.now.nodes (tree self) (option_copied environment.entry) extras.now) }
         ensures grown { IfErr result (λ _. option_copied environment.entry ≡ None) };
 
-    /// Whether versions and texts can be such that the tree holds with just these extras, whether or not an
-    /// environment has them all. The only refusal is want of memory, for a list of trees to look at.
+    /// Returns whether versions and texts can be such that the tree holds with just these extras, whether
+    /// or not an environment has them all. The only error is lack of memory, for a list of trees to look
+    /// at.
     ///
-    /// Looks at each node below the root twice at most, for its tree and the negation, and at each boundary
-    /// as often; extras are looked through for each node that asks for one. No recursion, however deep the
+    /// Looks at each node below the root twice at most, for its tree and the negation, and at each endpoint
+    /// as often; extras are looked through for each node that tests one. No recursion, however deep the
     /// tree is.
     fn evaluate_extras(
         self,
@@ -67,7 +72,7 @@ pub trait MarkerTreeEvaluation {
         requires { IsTree interner.now.nodes (tree self) }
         ensures { IfOk result (λ yes. IsTrue yes ↔ CanHold interner.now.nodes (tree self) extras.now) };
 
-    /// `evaluate_extras`; the versions are not looked at.
+    /// Returns `evaluate_extras`; the versions are not looked at.
     fn evaluate_extras_and_python_version(
         self,
         alloc: Global,
@@ -78,9 +83,9 @@ pub trait MarkerTreeEvaluation {
         requires { IsTree interner.now.nodes (tree self) }
         ensures { IfOk result (λ yes. IsTrue yes ↔ CanHold interner.now.nodes (tree self) extras.now) };
 
-    /// `evaluate`, which tells a reporter first of each old name of PEP 345 in the tree, one warning for
-    /// each path to a node of it, and then of each bound that a text is compared with on the way to the
-    /// answer. The only refusal is want of memory, for a warning's text or the reporter's own.
+    /// Returns `evaluate`, and first reports each old name of PEP 345 in the tree, one warning for each
+    /// path to a node of it, and then each bound that a text is compared with on the way to the result. The
+    /// only error is lack of memory, for a warning's text or in the reporter.
     ///
     /// Goes over each path from the root, of which there can be many more than nodes. No recursion, however
     /// deep the tree is. For a reporter that wants no warning it is `evaluate` alone.
@@ -101,7 +106,7 @@ pub trait MarkerTreeEvaluation {
             reporter.new) }
         ensures again { R.can_report reporter.new };
 
-    /// `evaluate` with the warnings of `evaluate_reporter`, in order. Takes memory for them.
+    /// Returns `evaluate` with the warnings of `evaluate_reporter`, in order. Takes memory for them.
     fn evaluate_collect_warnings(
         self,
         alloc: Global,

@@ -1,4 +1,4 @@
-//! Whether some valuation with just the listed extras makes a tree hold.
+//! Whether a tree can hold with just the listed extras.
 
 ghost use Rattle.std.specs.Prelude.{◌≡◌, ◌≤◌, ◌<◌, ◌↔◌, IsTrue, IfSome, MatchOption, length, map, ◌∷◌};
 ghost use Rattle.std.specs.Prelude.{option_map, IfOk, OnOk};
@@ -17,7 +17,7 @@ use pep508_tree::{Children, Interner, MarkerTree, TreeNode};
 use std::alloc::{AllocError, Global};
 use std::collections::BTreeSet;
 
-/// What stands for the extras under a flag that asks for one.
+/// Returns the child for the extras under a flag that tests one; `None` under another flag.
 fn extra_side(
     flag: &Flag,
     set: MarkerTree,
@@ -41,7 +41,7 @@ fn extra_side(
     }
 }
 
-/// The child that stands for the extras, where the tree asks first for an extra.
+/// Returns the child for the extras, where the tree first tests an extra.
 fn extra_child(tree: MarkerTree, interner: &Interner, extras: &[ExtraName]) -> Option<MarkerTree>
     requires { IsTree interner.now.nodes tree }
     ensures { MatchOption result (IfSome (root_of interner.now.nodes tree) AsksNoExtra)
@@ -55,7 +55,7 @@ fn extra_child(tree: MarkerTree, interner: &Interner, extras: &[ExtraName]) -> O
     }
 }
 
-/// The child between two boundaries, by its place.
+/// Returns the child between two endpoints, by its place.
 fn child_between<T>(children: Children<T>, index: usize) -> Option<MarkerTree>
     ensures { result ≡ option_map (turned children.entry.negated)
         (slice_get (children.entry.first ∷ map (λ branch. branch.child) children.entry.later.now) index) }
@@ -69,7 +69,7 @@ fn child_between<T>(children: Children<T>, index: usize) -> Option<MarkerTree>
     }
 }
 
-/// A child of the node at a tree's root, by its place.
+/// Returns a child of the node at a tree's root, by its place.
 #[tactic(auto, using(crate::proofs::Choosing::version_child_at, crate::proofs::Choosing::text_child_at))]
 fn child_at(tree: MarkerTree, interner: &Interner, index: usize) -> Option<MarkerTree>
     requires { IsTree interner.now.nodes tree }
@@ -83,8 +83,8 @@ fn child_at(tree: MarkerTree, interner: &Interner, index: usize) -> Option<Marke
     }
 }
 
-/// A child of the node at a tree's root, by its place, and none behind the last. Each was made before the
-/// tree.
+/// Returns a child of the node at a tree's root, by its place; `None` past the last child. Each was made
+/// before the tree.
 pub(crate) fn root_child(tree: MarkerTree, interner: &Interner, index: usize) -> Option<MarkerTree>
     requires { IsTree interner.now.nodes tree }
     ensures child { result ≡ slice_get (children_of (root_of interner.now.nodes tree)) index }
@@ -95,7 +95,7 @@ pub(crate) fn root_child(tree: MarkerTree, interner: &Interner, index: usize) ->
     child_at(tree, interner, index)
 }
 
-/// How many children the node at a tree's root has.
+/// Returns the number of children of the node at a tree's root.
 pub(crate) fn root_child_count(tree: MarkerTree, interner: &Interner) -> usize
     requires { IsTree interner.now.nodes tree }
     ensures { result ≡ length (children_of (root_of interner.now.nodes tree)) }
@@ -108,7 +108,7 @@ pub(crate) fn root_child_count(tree: MarkerTree, interner: &Interner) -> usize
     }
 }
 
-/// Puts what stands in the node at a tree's root among the trees that are reached.
+/// Adds the children of the node at a tree's root to the trees that are reached.
 fn reach_children(
     reached: &mut BTreeSet<Reached>,
     tree: MarkerTree,
@@ -127,8 +127,8 @@ fn reach_children(
     Ok(())
 }
 
-/// Whether some valuation with just the listed extras makes a tree hold. Of the trees that are reached the
-/// one that was made last is looked at first, so that none comes again.
+/// Returns whether some valuation with just the listed extras makes a tree hold. Of the trees that are
+/// reached the one that was made last is looked at first, so that none comes again.
 pub(crate) fn can_hold(
     alloc: Global,
     tree: MarkerTree,

@@ -1,5 +1,4 @@
-//! Laws over the definitions that the contracts cite. The functions do nothing: each one's contract is its
-//! law.
+//! Laws of evaluating trees. The functions do nothing: each one's contract is its law.
 
 ghost use Rattle.std.specs.Prelude.{◌≡◌, ◌↔◌, ℕ, IsTrue, true, List};
 ghost use Rattle.std.specs.Str.Iter.{HasSubslice};
@@ -9,7 +8,7 @@ ghost use Rattle.pep508_tree.specs.Tree.{Tree};
 ghost use Rattle.pep508_tree.specs.Meaning.{NodeRecord, holds};
 ghost use Rattle.pep508_evaluation.specs.Valuations.{stands_in, valuation_of, CanHold};
 
-/// Environments that differ in their member `python_version` alone have one valuation.
+/// Environments that differ in their member `python_version` alone have the same valuation.
 #[tactic(auto, using(crate::proofs::Alike::same_valuation))]
 pub fn python_version_is_not_looked_at()
     ensures { (environment : EnvironmentRecord) (extras : List (List ℕ)) (version : VersionRecord)
@@ -18,7 +17,7 @@ pub fn python_version_is_not_looked_at()
         ≡ valuation_of environment extras }
 {}
 
-/// What holds in an environment with extras can hold with these extras.
+/// A tree that holds in an environment with extras can hold with these extras.
 #[tactic(auto, using(crate::proofs::Alike::holding_can_hold))]
 pub fn what_holds_can_hold()
     ensures { (nodes : List NodeRecord) (tree : Tree) (environment : EnvironmentRecord)
@@ -26,7 +25,7 @@ pub fn what_holds_can_hold()
         CanHold nodes tree extras }
 {}
 
-/// A text stands in another exactly where its bytes are a part of the other's.
+/// A text occurs in another exactly where its bytes are a part of the other's.
 #[tactic(auto, using(crate::proofs::Standing::standing_part))]
 pub fn standing_in_is_being_a_part()
     ensures { (text whole : List ℕ) → IsTrue (stands_in text whole) ↔ HasSubslice whole text }

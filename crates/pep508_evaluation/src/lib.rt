@@ -1,5 +1,6 @@
-//! What marker trees of Python packages answer for environments and extras, as PEP 508 has them ("Environment
-//! Markers"). Contracts see an environment with extras as a valuation of what trees ask for.
+//! The evaluation of marker trees of Python packages for environments and extras, as PEP 508 has it
+//! ("Environment Markers"). The model of an environment with extras in contracts is a valuation of the
+//! variables that trees test.
 #![tactic(auto)]
 
 mod chosen;

@@ -1,4 +1,4 @@
-//! Trees in the order in which they were made.
+//! Trees sorted by when they were made.
 
 ghost use Rattle.std.specs.Prelude.{◌≡◌, refl};
 ghost use Rattle.std.specs.Cmp.{eq_by_cmp_equiv, partial_equiv_from_equiv, partial_order_from_agreeing_total};
@@ -10,7 +10,7 @@ use pep508_tree::MarkerTree;
 use std::cmp::Ordering;
 use std::marker::Model;
 
-/// A tree that is reached from another. What stands in a tree was made before it, and so comes before it.
+/// A tree that is reached from another. The children of a tree were made before it, and so sort before it.
 #[derive(Clone, Copy)]
 pub(crate) struct Reached(MarkerTree);
 
@@ -25,12 +25,14 @@ impl Model for Reached {
 }
 
 impl Reached {
+    /// Returns the tree as one that is reached.
     pub fn new(tree: MarkerTree) -> Reached
         ensures { result ≡ tree }
     {
         Reached(tree)
     }
 
+    /// Returns the tree.
     pub fn tree(self) -> MarkerTree
         ensures { result ≡ self }
     {

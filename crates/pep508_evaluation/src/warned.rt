@@ -1,4 +1,10 @@
-//! What is warned of where a tree is evaluated.
+//! The warnings of evaluating a tree.
+//!
+//! The kinds of warnings are read off the diagram and not off nodes: two tests in a row are of one node
+//! where they share a variable, so the definition needs no interner. Old names are reported of the last
+//! tree on a list, whose children are pushed there, the last one first. That this ends is shown by the
+//! number of steps on all paths, which is read off the diagram and never counted by the program
+//! (`proofs/Telling.antt`).
 
 ghost use Rattle.std.specs.Prelude.{◌≡◌, ◌++◌, OnOk, IfOk, None, Some, [], ◌∷◌, map, option_copied};
 ghost use Rattle.std.specs.Prelude.{option_to_list, is_some, reverse};
@@ -25,7 +31,7 @@ use std::alloc::{AllocError, Global};
 use std::ops::ControlFlow;
 use version_ranges::Boundary;
 
-/// What is said of an old name. Of `sys.platform` it has always been said with two blanks.
+/// Returns the warning's text for an old name. That of `sys.platform` has two blanks, as it always had.
 fn old_name_text(alloc: Global, key: MarkerValueString) -> Result<String, AllocError> {
     let gap = if key == MarkerValueString::SysPlatformDeprecated {
         "  "
@@ -37,7 +43,7 @@ fn old_name_text(alloc: Global, key: MarkerValueString) -> Result<String, AllocE
     Ok(text)
 }
 
-/// Warns of a key that is an old name.
+/// Reports a key that is an old name.
 fn report_old_name<R: Reporter>(
     alloc: Global,
     key: MarkerValueString,
@@ -54,7 +60,7 @@ fn report_old_name<R: Reporter>(
     reporter.report(MarkerWarningKind::DeprecatedMarkerName, text)
 }
 
-/// Warns of a bound that a text is compared with.
+/// Reports a bound that a text is compared with.
 fn report_bound<R: Reporter>(
     alloc: Global,
     text: &str,
@@ -77,7 +83,7 @@ fn report_bound<R: Reporter>(
     reporter.report(MarkerWarningKind::LexicographicComparison, message)
 }
 
-/// Whether an edge is a single text.
+/// Returns whether an edge is a single text.
 fn is_single(lower: Option<&Boundary<MarkerText>>, upper: Option<&Boundary<MarkerText>>) -> bool
     ensures { result ≡ is_some (single_value text_cmp (map point_of
         (option_to_list (option_copied lower.entry) ++ option_to_list (option_copied upper.entry)))) }
@@ -88,7 +94,7 @@ fn is_single(lower: Option<&Boundary<MarkerText>>, upper: Option<&Boundary<Marke
     }
 }
 
-/// Warns of the bounds of an edge.
+/// Reports the bounds of an edge.
 fn report_edge<R: Reporter>(
     alloc: Global,
     text: &str,
@@ -114,7 +120,7 @@ fn report_edge<R: Reporter>(
     Ok(())
 }
 
-/// Warns of the edges of a node of texts, up to the one that has a text.
+/// Reports the edges of a node of texts, up to the one that contains a text.
 fn report_edges<R: Reporter>(
     alloc: Global,
     text: &str,
@@ -137,7 +143,7 @@ fn report_edges<R: Reporter>(
     report_edge(alloc, text, lower, None, reporter)
 }
 
-/// Warns of the edges of the node at a tree's root.
+/// Reports the edges of the node at a tree's root.
 fn report_root_edges<R: Reporter>(
     alloc: Global,
     tree: MarkerTree,
@@ -163,7 +169,7 @@ fn report_root_edges<R: Reporter>(
     }
 }
 
-/// Whether a tree holds in an environment with extras. Warns of what is compared on the way.
+/// Returns whether a tree holds in an environment with extras, and reports the comparisons on the way.
 fn report_compared<R: Reporter>(
     alloc: Global,
     tree: MarkerTree,
@@ -192,7 +198,7 @@ fn report_compared<R: Reporter>(
     }
 }
 
-/// Warns of the old name that the node at a tree's root has.
+/// Reports the old name that the node at a tree's root has.
 #[tactic(auto, using(crate::proofs::Rooted::signed_names, crate::proofs::Rooted::signed_version_names))]
 fn report_root_name<R: Reporter>(
     alloc: Global,
@@ -214,7 +220,7 @@ fn report_root_name<R: Reporter>(
     }
 }
 
-/// Puts what stands in a tree's node behind the trees that wait, the first one last.
+/// Pushes the children of a tree's node onto the trees left to visit, the first one last.
 fn add_children(
     tree: MarkerTree,
     interner: &Interner,
@@ -235,8 +241,8 @@ fn add_children(
     Ok(())
 }
 
-/// Warns of all old names in a tree. What waits stands on a list, so that a long path takes memory and no
-/// stack.
+/// Reports all old names in a tree. The trees left to visit are kept in a list, so that a long path takes
+/// memory and no stack.
 fn report_old_names<R: Reporter>(
     alloc: Global,
     tree: MarkerTree,
@@ -258,7 +264,7 @@ fn report_old_names<R: Reporter>(
     Ok(())
 }
 
-/// Whether a tree holds in an environment with extras. Warns of old names, and of what is compared. For a
+/// Returns whether a tree holds in an environment with extras, and reports old names and comparisons. For a
 /// reporter that wants nothing it walks one path alone. No recursion, however deep the tree is.
 pub(crate) fn evaluate_reporter<R: Reporter>(
     alloc: Global,
@@ -284,7 +290,7 @@ pub(crate) fn evaluate_reporter<R: Reporter>(
     Ok(evaluate(tree, interner, environment, extras))
 }
 
-/// Keeps each warning.
+/// A reporter that keeps each warning.
 #[derive(Drop)]
 pub(crate) struct Collected {
     pub(crate) warnings: Vec<(MarkerWarningKind, String)>,
@@ -302,7 +308,7 @@ impl Reporter for Collected {
     }
 }
 
-/// The same, with the warnings.
+/// Returns whether a tree holds in an environment with extras, and the warnings of `evaluate_reporter`.
 #[tactic(auto, using(crate::proofs::Edging::collected))]
 pub(crate) fn evaluate_collect_warnings(
     alloc: Global,

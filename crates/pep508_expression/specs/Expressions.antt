@@ -1,4 +1,4 @@
--- When a comparison of a marker holds, under valuations of what markers ask for (PEP 508, "Environment
+-- When a comparison of a marker holds, under valuations of the variables of markers (PEP 508, "Environment
 -- Markers").
 use Rattle.std.specs.Prelude.{ℕ, Bool, true, false, not, List, Option, Some, None}
 use Rattle.std.specs.Option.{is_some}
@@ -48,7 +48,7 @@ listed_points ImplementationVersion negated versions = Some (negated_points nega
 listed_points PythonFullVersion negated versions = Some (negated_points negated (listed versions))
 listed_points PythonVersion negated versions = python_listed_points negated versions
 
--- texts compare by their bytes; `~=` is no comparison of texts
+-- texts compare by their bytes; `~=` doesn't compare texts
 abbrev pub text_holds : MarkerValueString → MarkerOperator → List ℕ → Valuation → Bool
 text_holds key Equal text v = is_eq (point_cmp text_cmp (v.text key) (At text))
 text_holds key NotEqual text v = not (is_eq (point_cmp text_cmp (v.text key) (At text)))
@@ -70,12 +70,12 @@ abbrev pub extra_holds : ExtraOperator → ExtraRecord → Valuation → Bool
 extra_holds extra.Equal asked v = v.flag (extra_flag asked)
 extra_holds extra.NotEqual asked v = not (v.flag (extra_flag asked))
 
--- the points of a version comparison that is there, and else none
+-- the points of a version comparison; none where there are no points
 abbrev pub or_nowhere : Option PointTest → PointTest
 or_nowhere (Some points) = points
 or_nowhere None = nowhere
 
--- whether no number of the comparison stands at the greatest of 64 bits where it has to be raised
+-- whether no number of the comparison that has to be raised is the greatest of 64 bits
 unfoldable pub has_points : ExpressionRecord → Bool
 has_points (Version key specifier) = is_some (compared_points key specifier)
 has_points (VersionIn key versions negated) = is_some (listed_points key negated versions)

@@ -1,4 +1,4 @@
--- What the tree of a comparison is, and when there is none.
+-- The tree of a comparison, and when there is none.
 use Rattle.std.specs.Prelude.{◌≡◌, true, false, List, Result, Ok, Err}
 use Rattle.pep440_range.specs.declared.RangeError.{RangeError}
 use Rattle.pep440_range.specs.declared.RangeError.TheVariants.{NumberAtEnd, Memory}
@@ -16,8 +16,8 @@ IsComparison (VersionIn key versions negated) = Unit {0}
 IsComparison (String key operator text) = operator ≡ TildeEqual → ⊥
 IsComparison (Extra operator asked) = Unit {0}
 
--- the tree holds where the comparison does; there is none where a number can't be raised; only want of memory
--- leaves both open
+-- the tree holds where the comparison does; there is none where a number can't be raised; only lack of
+-- memory leaves both open
 abbrev pub GivesTree : List NodeRecord → Result Tree RangeError → ExpressionRecord → Type 0
 GivesTree nodes (Ok tree) expression =
     (has_points expression ≡ true) × IsTreeOf nodes (expression_holds expression) tree

@@ -1,4 +1,8 @@
 //! Trees of comparisons.
+//!
+//! The calls are a trait, as methods on a type of another crate have to be. Its ghost member says what may
+//! be returned, and the impl's member is the relation `GivesTree` itself, so a caller sees what a method of
+//! its own would say.
 
 ghost use Rattle.std.specs.Prelude.{◌≡◌, List, Result, Ok, IfOk};
 ghost use Rattle.pep440_range.specs.declared.RangeError.{RangeError};
@@ -15,16 +19,21 @@ use pep508_marker::{MarkerExpression, MarkerOperator, MarkerValueString};
 use pep508_tree::{Interner, MarkerTree};
 use std::alloc::{AllocError, Global};
 
-/// What makes trees of comparisons.
+/// Making trees of comparisons.
 pub trait MarkerTreeExpression {
     /// This may be returned for a comparison, by an interner that has these nodes afterwards.
     ghost gives: { List NodeRecord → Result Self RangeError → ExpressionRecord → Type 0 };
 
-    /// The tree of a comparison (PEP 508, "Environment Markers"), which isn't counted. Earlier trees mean
-    /// what they meant, refused or not. Texts are compared by their bytes; `~=` of texts is not to be asked.
+    /// Returns the tree of a comparison (PEP 508, "Environment Markers"), which isn't counted. Earlier
+    /// trees keep their meaning, also after an error. Texts are compared by their bytes; `~=` of texts is
+    /// not allowed.
     ///
-    /// `NumberAtEnd` where a number that has to be raised is the greatest of 64 bits. n listed versions take
-    /// O(n log n) comparisons of versions, any other comparison a fixed number of passes over it.
+    /// n listed versions take O(n log n) comparisons of versions, any other comparison a fixed number of
+    /// passes over it.
+    ///
+    /// # Errors
+    /// `NumberAtEnd` where a number that has to be raised is the greatest of 64 bits; `Memory` where memory
+    /// ran out.
     fn expression(
         alloc: Global,
         interner: &mut Interner,
@@ -66,7 +75,8 @@ impl MarkerTreeExpression for MarkerTree {
     }
 }
 
-/// The tree that was made; the one that never holds where there is none since a number can't be raised.
+/// Returns the tree that was made; the one that never holds where there is none since a number can't be
+/// raised.
 fn or_never(made: Result<MarkerTree, RangeError>) -> Result<MarkerTree, AllocError>
     ensures { (nodes : List NodeRecord) (expression : ExpressionRecord) → GivesTree nodes made expression
         → IfOk result (IsTreeOf nodes (expression_holds expression)) }
@@ -78,7 +88,7 @@ fn or_never(made: Result<MarkerTree, RangeError>) -> Result<MarkerTree, AllocErr
     }
 }
 
-/// The tree of a key and a text; the one that never holds for `~=`, which compares no texts.
+/// Returns the tree of a key and a text; the one that never holds for `~=`, which doesn't compare texts.
 fn any_text_tree(
     alloc: Global,
     interner: &mut Interner,
@@ -96,9 +106,9 @@ fn any_text_tree(
     }
 }
 
-/// The tree of any comparison, which holds where that does: nowhere where a number that has to be raised is
+/// Returns the tree that holds where any comparison does: nowhere where a number that has to be raised is
 /// the greatest of 64 bits, or where texts are compared by `~=`. It isn't counted, and costs what
-/// `MarkerTreeExpression::expression` does; earlier trees mean what they meant, refused or not.
+/// `MarkerTreeExpression::expression` does; earlier trees keep their meaning, also after an error.
 #[tactic(auto, unfolding(crate::specs::Expressions::expression_holds))]
 pub fn comparison_tree(
     alloc: Global,

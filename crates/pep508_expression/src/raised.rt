@@ -1,4 +1,8 @@
 //! Comparisons of versions whose numbers can be raised.
+//!
+//! A number that cannot be raised is refused while the marker is read, so that making trees fails for lack
+//! of memory alone. Most comparisons are decided by their numbers; a range is made only for `~=` and where
+//! a number is the greatest of 64 bits.
 
 ghost use Rattle.std.specs.Prelude.{◌≡◌, true, Bool, Option, IfOk};
 ghost use Rattle.std.specs.Option.{is_some};
@@ -18,14 +22,15 @@ use pep508_marker::{MarkerExpression, MarkerValueVersion};
 use std::alloc::{AllocError, Global};
 use version_ranges::Ranges;
 
-/// Whether each number is less than the greatest of 64 bits.
+/// Returns whether each number is less than the greatest of 64 bits.
 fn are_small(numbers: &[u64]) -> bool
     ensures { result ≡ list_all is_small numbers.now }
 {
     numbers.iter().all(|number| *number < u64::MAX)
 }
 
-/// Whether the operator and the numbers tell that no number is past the end; `~=` is not looked into.
+/// Returns whether the operator and the numbers alone show that no number is past the end; false for `~=`,
+/// which is not looked into.
 fn is_plain(specifier: &VersionSpecifier) -> bool
     ensures { (key : MarkerValueVersion) → result ≡ true
         → is_some (compared_points key specifier.now) ≡ true }
@@ -36,14 +41,14 @@ fn is_plain(specifier: &VersionSpecifier) -> bool
     }
 }
 
-/// Whether the numbers of all versions are less than the greatest of 64 bits.
+/// Returns whether the numbers of all versions are less than the greatest of 64 bits.
 fn all_small(versions: &[Version]) -> bool
     ensures { result ≡ list_all has_small versions.now }
 {
     versions.iter().all(|version| are_small(version.release()))
 }
 
-/// Whether there is such a set.
+/// Returns whether there is such a set: false for `NumberAtEnd`.
 fn is_made(set: Result<Ranges<Version>, RangeError>) -> Result<bool, AllocError>
     ensures { (points : Option PointTest) → Gives set points
         → IfOk result (λ answer. answer ≡ is_some points) }
@@ -55,7 +60,7 @@ fn is_made(set: Result<Ranges<Version>, RangeError>) -> Result<bool, AllocError>
     }
 }
 
-/// Whether a specifier's numbers can be raised.
+/// Returns whether a specifier's numbers can be raised.
 fn compared_raises(
     alloc: Global,
     key: MarkerValueVersion,
@@ -69,7 +74,7 @@ fn compared_raises(
     is_made(compared_range(alloc, key, specifier))
 }
 
-/// Whether the numbers of listed versions can be raised.
+/// Returns whether the numbers of listed versions can be raised.
 fn listed_raises(
     alloc: Global,
     key: MarkerValueVersion,
@@ -84,9 +89,9 @@ fn listed_raises(
     is_made(listed_by(alloc, key, versions, negated))
 }
 
-/// Whether each number of a comparison that has to be raised can be, as it is less than the greatest of 64
-/// bits. Looks at the numbers; only where one is the greatest, or beside `~=`, the range is made, and takes
-/// memory.
+/// Returns whether each number of a comparison that has to be raised can be, as it is less than the
+/// greatest of 64 bits. Looks at the numbers; only where one is the greatest, or for `~=`, the range is
+/// made, and takes memory.
 #[tactic(auto, unfolding(crate::specs::Expressions::has_points))]
 pub fn has_points(alloc: Global, expression: &MarkerExpression) -> Result<bool, AllocError>
     ensures { IfOk result (λ answer. answer ≡ has_points (expression_of expression.now)) }

@@ -18,7 +18,7 @@ use pep508_tree::{Interner, MarkerTree};
 use std::alloc::{AllocError, Global};
 use version_ranges::Boundary;
 
-/// The tree of the text alone, or of all others.
+/// Returns the tree of the text alone, or of all others.
 fn equal_tree(
     alloc: Global,
     interner: &mut Interner,
@@ -36,7 +36,7 @@ fn equal_tree(
     interner.texts_tree(alloc, key, negated, &boundaries)
 }
 
-/// The tree of the texts from a boundary on, or of those below it.
+/// Returns the tree of the texts from an endpoint on, or of those below it.
 fn side_tree(
     alloc: Global,
     interner: &mut Interner,
@@ -52,7 +52,7 @@ fn side_tree(
     interner.texts_tree(alloc, key, below, &[boundary])
 }
 
-/// The tree of a flag that is set, or that is not.
+/// Returns the tree of a flag that is set, or that is not.
 fn flag_tree(
     alloc: Global,
     interner: &mut Interner,
@@ -67,7 +67,7 @@ fn flag_tree(
     Ok(if negated { tree.negate() } else { tree })
 }
 
-/// The tree of a key and a text.
+/// Returns the tree of a key and a text.
 pub(crate) fn text_tree(
     alloc: Global,
     interner: &mut Interner,
@@ -104,7 +104,7 @@ pub(crate) fn text_tree(
     }
 }
 
-/// The flag of an extra.
+/// Returns the flag of an extra.
 fn flag_of(alloc: Global, name: &MarkerValueExtra) -> Result<Flag, AllocError>
     ensures { IfOk result (λ flag. flag ≡ extra_flag (extra_of name.now)) }
 {
@@ -117,7 +117,7 @@ fn flag_of(alloc: Global, name: &MarkerValueExtra) -> Result<Flag, AllocError>
     }
 }
 
-/// The tree of an extra.
+/// Returns the tree of an extra.
 pub(crate) fn extra_tree(
     alloc: Global,
     interner: &mut Interner,

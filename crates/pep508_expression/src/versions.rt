@@ -17,7 +17,7 @@ use pep508_tree::{Interner, MarkerTree};
 use std::alloc::Global;
 use version_ranges::Ranges;
 
-/// The variable of a key.
+/// Returns the variable of a key.
 fn variable_of(key: MarkerValueVersion) -> VersionVariable
     ensures { result ≡ variable_of key }
 {
@@ -29,8 +29,11 @@ fn variable_of(key: MarkerValueVersion) -> VersionVariable
     }
 }
 
-/// The versions of the key's variable for which the key compares so. Costs what `release_specifier_to_range`
-/// or `python_version_range` does.
+/// Returns the versions of the key's variable for which the comparison with the specifier holds. Costs what
+/// `release_specifier_to_range` or `python_version_range` does.
+///
+/// # Errors
+/// `NumberAtEnd` where a number of a bound would be past 64 bits; `Memory` where memory ran out.
 pub fn compared_range(
     alloc: Global,
     key: MarkerValueVersion,
@@ -46,8 +49,11 @@ pub fn compared_range(
     }
 }
 
-/// The versions of the key's variable for which the key is listed, or is not. n versions take O(n log n)
-/// comparisons.
+/// Returns the versions of the key's variable for which the key is listed, or is not where `negated`. n
+/// versions take O(n log n) comparisons.
+///
+/// # Errors
+/// `NumberAtEnd` where a number of a bound would be past 64 bits; `Memory` where memory ran out.
 pub fn listed_by(
     alloc: Global,
     key: MarkerValueVersion,
@@ -64,7 +70,7 @@ pub fn listed_by(
     }
 }
 
-/// The tree of a key and a specifier.
+/// Returns the tree of a key and a specifier.
 #[tactic(auto, unfolding(crate::specs::Expressions::has_points, crate::specs::Expressions::expression_holds), using(crate::proofs::Points::points_or_nowhere))]
 pub(crate) fn version_tree(
     alloc: Global,
@@ -80,7 +86,7 @@ pub(crate) fn version_tree(
     Ok(interner.versions_tree(alloc, variable_of(key), &set)?)
 }
 
-/// The tree of a key and a list of versions.
+/// Returns the tree of a key and a list of versions.
 #[tactic(auto, unfolding(crate::specs::Expressions::has_points, crate::specs::Expressions::expression_holds), using(crate::proofs::Points::points_or_nowhere))]
 pub(crate) fn listed_tree(
     alloc: Global,

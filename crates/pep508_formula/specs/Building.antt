@@ -9,7 +9,7 @@ use Rattle.pep508_formula.specs.Postfix.{built}
 abbrev pub Said : Type 0
 Said = Formula ExpressionRecord
 
--- what a formula said so far: its chains of `and` that are over, and the pieces of the one that isn't
+-- a formula so far: its chains of `and` that have ended, and the pieces of the one that hasn't
 pub record Begun : Type 0 where
   pub either : Option Said
   pub both : Option Said
@@ -17,7 +17,7 @@ pub record Begun : Type 0 where
 abbrev pub nothing : Begun
 nothing = record { either = None; both = None }
 
--- chains of `and` that are over, and nothing behind them
+-- chains of `and` that have ended, and nothing after them
 abbrev pub whole_of : Said → Begun
 whole_of f = record { either = Some f; both = None }
 
@@ -34,7 +34,7 @@ abbrev pub stack_of : List Begun → List Said
 stack_of [] = []
 stack_of (begun ∷ waiting) = listed begun.both ++ (listed begun.either ++ stack_of waiting)
 
--- the level tells what there is
+-- the level says what there is
 pub record IsLevel (level : Level) (begun : Begun) : Type 0 where
   pub either_is : level.either ≡ is_some begun.either
   pub both_is : level.both ≡ is_some begun.both
@@ -45,7 +45,7 @@ AreLevels [] (begun ∷ waiting) = ⊥
 AreLevels (level ∷ levels) [] = ⊥
 AreLevels (level ∷ levels) (begun ∷ waiting) = IsLevel level begun × AreLevels levels waiting
 
--- so much was said, and then a piece that is joined with none of it yet, or none
+-- the builder has this formula so far, and then a piece that is not yet joined with it, or none
 pub record Stands (b : FormulaBuilder) (piece : Option Said) (begun : Begun) (waiting : List Begun)
     : Type 0 where
   pub stack : built [] b.formula ≡ listed piece ++ stack_of (begun ∷ waiting)

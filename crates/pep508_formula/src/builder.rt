@@ -1,4 +1,7 @@
-//! Building formulas: `and` binds before `or`.
+//! Building formulas, in which `and` binds before `or`.
+//!
+//! What was read before an `and` or `or` is known by two flags for each open bracket
+//! (`specs/Building.antt`).
 
 ghost use Rattle.std.specs.Prelude.{◌≡◌, [], ◌∷◌, List, Some, None, OnOk, true};
 ghost use Rattle.pep508_marker.specs.Expression.{expression_of};
@@ -10,14 +13,15 @@ use crate::MarkerFormula;
 use pep508_marker::MarkerExpression;
 use std::alloc::{AllocError, Global};
 
-/// What a formula has said so far: whether a chain of `and` is over, and whether one has begun.
+/// The state of a formula that is being read: whether a chain of `and` has ended, and whether one has
+/// begun.
 #[derive(Clone, Copy, Drop)]
 pub(crate) struct Level {
     pub either: bool,
     pub both: bool,
 }
 
-/// A formula that is being read: its parts so far, and where brackets stand open.
+/// A formula that is being read: its parts so far, and the formulas around its open brackets.
 #[derive(Drop)]
 pub struct FormulaBuilder {
     pub(crate) formula: MarkerFormula,
@@ -26,7 +30,7 @@ pub struct FormulaBuilder {
 }
 
 impl FormulaBuilder {
-    /// Nothing is said.
+    /// Returns a builder of no parts.
     pub fn new(alloc: Global) -> FormulaBuilder
         ensures { Stands result None nothing [] }
     {
@@ -40,7 +44,7 @@ impl FormulaBuilder {
         }
     }
 
-    /// A comparison is the next piece.
+    /// Adds a comparison as the next piece.
     pub fn say(&mut self, alloc: Global, expression: MarkerExpression) -> Result<(), AllocError>
         ensures { OnOk result ((begun : Begun) (waiting : List Begun) → Stands self.old None begun waiting →
             Stands self.new (Some (Says (expression_of expression))) begun waiting) }
@@ -48,7 +52,7 @@ impl FormulaBuilder {
         self.formula.say(alloc, expression)
     }
 
-    /// The next piece is left out.
+    /// Adds that the next piece is left out.
     pub fn leave_out(&mut self) -> Result<(), AllocError>
         ensures { OnOk result ((begun : Begun) (waiting : List Begun) → Stands self.old None begun waiting →
             Stands self.new (Some LeftOut) begun waiting) }
@@ -56,7 +60,7 @@ impl FormulaBuilder {
         self.formula.leave_out()
     }
 
-    /// A bracket opens: a formula begins, and the one before it waits.
+    /// Opens a bracket: a formula begins, and the one around it waits.
     pub fn open(&mut self) -> Result<(), AllocError>
         ensures { OnOk result ((begun : Begun) (waiting : List Begun) → Stands self.old None begun waiting →
             Stands self.new None nothing (begun ∷ waiting)) }
@@ -69,7 +73,7 @@ impl FormulaBuilder {
         Ok(())
     }
 
-    /// The piece goes on the chain of `and`.
+    /// Appends the piece to the chain of `and`.
     pub fn take(&mut self) -> Result<(), AllocError>
         ensures { OnOk result ((piece : Said) (begun : Begun) (waiting : List Begun) →
             Stands self.old (Some piece) begun waiting →
@@ -82,7 +86,7 @@ impl FormulaBuilder {
         Ok(())
     }
 
-    /// The chain of `and` is over, and goes on that of `or`.
+    /// Ends the chain of `and`, and appends it to that of `or`.
     pub fn end_chain(&mut self) -> Result<(), AllocError>
         ensures { OnOk result ((chain : Said) (begun : Begun) (waiting : List Begun) →
             Stands self.old None (record begun { both = Some chain }) waiting →
@@ -98,7 +102,8 @@ impl FormulaBuilder {
         Ok(())
     }
 
-    /// A bracket closes: its formula is the next piece of the one that waits. Nothing where none does.
+    /// Closes a bracket: its formula is the next piece of the one around it. Returns false, and does
+    /// nothing, where no bracket is open.
     pub fn close(&mut self) -> bool
         ensures { (whole : Said) (begun : Begun) (waiting : List Begun) →
             Stands self.old None (whole_of whole) (begun ∷ waiting) →
@@ -113,7 +118,7 @@ impl FormulaBuilder {
         }
     }
 
-    /// The formula.
+    /// Returns the formula.
     pub fn finish(self) -> MarkerFormula
         ensures { (whole : Said) → Stands self None (whole_of whole) [] →
             formula_of result ≡ whole }

@@ -1,4 +1,8 @@
-//! Formulas.
+//! Formulas of comparisons in postfix order.
+//!
+//! A formula is a list in postfix order, one byte for each part, with the comparisons in a list of their
+//! own. Its meaning is total: what is missing counts as left out, so that neither its truth nor its tree
+//! has to ask whether a list is whole.
 
 ghost use Rattle.std.specs.Prelude.{◌≡◌, [], ◌∷◌, ◌++◌, OnOk};
 ghost use Rattle.pep508_marker.specs.Expression.{expression_of};
@@ -9,12 +13,12 @@ use pep508_marker::MarkerExpression;
 use std::alloc::{AllocError, Global};
 use std::marker::Model;
 
-/// What stands at a place of a formula in postfix order.
+/// One part of a formula in postfix order.
 #[derive(Clone, Copy)]
 pub(crate) enum Token {
     /// The next comparison.
     Says,
-    /// A comparison without a meaning, which is passed over.
+    /// A meaningless comparison, which is ignored.
     LeftOut,
     /// The last two formulas, joined by `and`.
     And,
@@ -24,7 +28,7 @@ pub(crate) enum Token {
 
 /// Comparisons, some of them left out, joined by `and` and `or`, in postfix order.
 ///
-/// Takes a byte for each comparison, `and` and `or`, and beside it what each comparison takes.
+/// Takes a byte for each comparison, `and` and `or`, and besides what each comparison takes.
 #[derive(Drop)]
 pub struct MarkerFormula {
     pub(crate) tokens: Vec<Token>,
@@ -44,7 +48,7 @@ impl Model for MarkerFormula {
 }
 
 impl MarkerFormula {
-    /// Nothing yet.
+    /// Returns a formula of no parts yet.
     pub fn new(alloc: Global) -> MarkerFormula
         ensures { result ≡ [] }
     {
@@ -54,7 +58,7 @@ impl MarkerFormula {
         }
     }
 
-    /// A comparison more.
+    /// Appends a comparison.
     pub fn say(&mut self, alloc: Global, expression: MarkerExpression) -> Result<(), AllocError>
         ensures { OnOk result (self.new ≡ self.old ++ Compared (expression_of expression) ∷ []) }
     {
@@ -67,7 +71,7 @@ impl MarkerFormula {
         }
     }
 
-    /// One more that is left out.
+    /// Appends a comparison that is left out.
     pub fn leave_out(&mut self) -> Result<(), AllocError>
         ensures { OnOk result (self.new ≡ self.old ++ Passed ∷ []) }
     {
@@ -91,7 +95,7 @@ impl MarkerFormula {
         Ok(())
     }
 
-    /// What it consists of, in postfix order.
+    /// Returns the formula's parts, in postfix order.
     pub fn parts(&self) -> Parts<'_>
         ensures { parts_in result ≡ self.now }
     {

@@ -1,4 +1,4 @@
-//! What formulas consist of, one part after another.
+//! The parts of formulas, one after another.
 
 ghost use Rattle.std.specs.Prelude.{◌≡◌, [], ◌∷◌, MatchOption};
 ghost use Rattle.pep508_formula.specs.Postfix.{parts_in, part_of};
@@ -6,12 +6,12 @@ ghost use Rattle.pep508_formula.specs.Postfix.{parts_in, part_of};
 use crate::formula::Token;
 use pep508_marker::MarkerExpression;
 
-/// What stands at a place of a formula in postfix order.
+/// One part of a formula in postfix order.
 #[derive(Clone, Copy)]
 pub enum FormulaPart<'a> {
     /// A comparison.
     Says(&'a MarkerExpression),
-    /// A comparison without a meaning, which is passed over.
+    /// A meaningless comparison, which is ignored.
     LeftOut,
     /// The last two formulas, joined by `and`.
     And,
@@ -19,7 +19,7 @@ pub enum FormulaPart<'a> {
     Or,
 }
 
-/// What is left of a formula behind a place.
+/// The remaining parts of a formula.
 #[derive(Clone, Copy)]
 pub struct Parts<'a> {
     pub(crate) tokens: &'a [Token],
@@ -27,7 +27,7 @@ pub struct Parts<'a> {
 }
 
 impl<'a> Parts<'a> {
-    /// The first part and what is left behind it, if any is.
+    /// Returns the first part and the parts after it, if there is one.
     pub fn split_first(self) -> Option<(FormulaPart<'a>, Parts<'a>)>
         ensures { MatchOption result (parts_in self.entry ≡ [])
             (λ found. parts_in self.entry ≡ part_of found.0 ∷ parts_in found.1) }

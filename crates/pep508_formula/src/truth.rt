@@ -1,4 +1,4 @@
-//! Whether formulas hold.
+//! Evaluating formulas.
 
 ghost use Rattle.std.specs.Prelude.{◌≡◌, ◌∷◌, ◌&&◌, ◌||◌, Bool, None, IfOk, OnOk, reverse};
 ghost use Rattle.pep508_marker.specs.Expression.{expression_of};
@@ -9,7 +9,7 @@ use crate::{FormulaPart, MarkerFormula};
 use pep508_marker::MarkerExpression;
 use std::alloc::{AllocError, Global};
 
-/// What tells of each comparison whether it holds.
+/// The truth of each comparison.
 pub trait ExpressionTruth {
     ghost use Rattle.std.specs.Prelude.{◌≡◌, Bool, IfOk};
     ghost use Rattle.pep508_marker.specs.Expression.{ExpressionRecord, expression_of};
@@ -17,12 +17,12 @@ pub trait ExpressionTruth {
     /// Whether a comparison holds.
     ghost truth: { Self → ExpressionRecord → Bool };
 
-    /// Whether a comparison holds.
+    /// Returns whether a comparison holds.
     fn holds(&self, alloc: Global, expression: &MarkerExpression) -> Result<bool, AllocError>
         ensures { IfOk result (λ answer. answer ≡ truth self.now (expression_of expression.now)) };
 }
 
-/// Two truths joined by `and`, of which one that is left out is passed over.
+/// Joins two truths by `and`; one that is left out is ignored.
 fn both(a: Option<bool>, b: Option<bool>) -> Option<bool>
     ensures { result ≡ joined (λ x y. x && y) a b }
 {
@@ -35,7 +35,7 @@ fn both(a: Option<bool>, b: Option<bool>) -> Option<bool>
     }
 }
 
-/// Two truths joined by `or`, in the same way.
+/// Joins two truths by `or`; one that is left out is ignored.
 fn either(a: Option<bool>, b: Option<bool>) -> Option<bool>
     ensures { result ≡ joined (λ x y. x || y) a b }
 {
@@ -48,7 +48,7 @@ fn either(a: Option<bool>, b: Option<bool>) -> Option<bool>
     }
 }
 
-/// The truth on top, which is taken off; none where there is none.
+/// Removes and returns the truth on top; `None` where there is none.
 fn taken(stack: &mut Vec<Option<bool>>) -> Option<bool>
     ensures top { result ≡ last_or None (reverse stack.old.items) }
     ensures rest { reverse stack.new.items ≡ rest_of (reverse stack.old.items) }
@@ -59,7 +59,7 @@ fn taken(stack: &mut Vec<Option<bool>>) -> Option<bool>
     }
 }
 
-/// The truths behind one part more.
+/// Updates the stack of truths by one more part.
 fn tell<T: ExpressionTruth>(
     alloc: Global,
     truths: &T,
@@ -87,8 +87,8 @@ fn tell<T: ExpressionTruth>(
     Ok(())
 }
 
-/// Whether a formula holds. Asks for the truth of each comparison once, in their order, and takes no stack:
-/// as many truths wait, two bytes each, as formulas are begun and not yet joined with another.
+/// Returns whether a formula holds. Evaluates each comparison once, in their order, and takes no stack: it
+/// keeps two bytes for each formula that is begun and not yet joined with another.
 #[tactic(auto, using(crate::proofs::Building::formula_told))]
 pub fn formula_holds<T: ExpressionTruth>(
     alloc: Global,

@@ -22,7 +22,7 @@ use pep508_name::ExtraName;
 use std::alloc::{AllocError, Global};
 use version_ranges::Ranges;
 
-/// Whether the set holds a version; where a number couldn't be raised it doesn't.
+/// Returns whether the set contains a version; false where a number couldn't be raised.
 #[tactic(auto, using(crate::proofs::Points::held_there, crate::proofs::Points::nowhere_there))]
 fn at_version(
     set: Result<Ranges<Version>, RangeError>,
@@ -38,7 +38,7 @@ fn at_version(
     }
 }
 
-/// Whether a specifier's comparison holds at a version; where a number can't be raised it doesn't.
+/// Returns whether a specifier's comparison holds at a version; false where a number can't be raised.
 pub(crate) fn version_holds(
     alloc: Global,
     key: MarkerValueVersion,
@@ -51,7 +51,8 @@ pub(crate) fn version_holds(
     at_version(compared_range(alloc, key, specifier), version)
 }
 
-/// Whether a key is listed at a version, or is not; where a number can't be raised neither.
+/// Returns whether a key is listed at a version, or is not where `negated`; false for both where a number
+/// can't be raised.
 pub(crate) fn listed_holds(
     alloc: Global,
     key: MarkerValueVersion,
@@ -65,7 +66,7 @@ pub(crate) fn listed_holds(
     at_version(listed_by(alloc, key, versions, negated), version)
 }
 
-/// Whether the text of a key compares so.
+/// Returns whether a comparison of a key's text holds.
 pub(crate) fn text_holds(
     environment: &MarkerEnvironment,
     key: MarkerValueString,
@@ -91,7 +92,7 @@ pub(crate) fn text_holds(
     }
 }
 
-/// Whether an extra is listed.
+/// Returns whether an extra is listed.
 fn is_listed(extras: &[ExtraName], name: &MarkerValueExtra) -> bool
     ensures { (environment : EnvironmentRecord) → result
         ≡ extra_holds ExtraOperator.Equal (extra_of name.now) (valuation_of environment extras.now) }
@@ -102,7 +103,7 @@ fn is_listed(extras: &[ExtraName], name: &MarkerValueExtra) -> bool
     }
 }
 
-/// Whether an extra is listed, or isn't.
+/// Returns whether an extra is listed, or for `!=` whether it isn't.
 pub(crate) fn extra_holds(
     extras: &[ExtraName],
     operator: ExtraOperator,

@@ -15,14 +15,14 @@ use pep508_marker::{MarkerExpression, MarkerValueVersion};
 use pep508_name::ExtraName;
 use std::alloc::{AllocError, Global};
 
-/// An environment with extras.
+/// An environment with extras, as the truth of comparisons.
 #[derive(Clone, Copy)]
 pub struct InEnvironment<'a> {
     pub environment: &'a MarkerEnvironment,
     pub extras: &'a [ExtraName],
 }
 
-/// The version that a key compares; that of `python_version` is read off `python_full_version`.
+/// Returns the version that a key compares; that of `python_version` is read off `python_full_version`.
 fn version_of(environment: &MarkerEnvironment, key: MarkerValueVersion) -> &Version
     ensures { result.now ≡ variable_in environment.now (variable_of key) }
 {
@@ -67,11 +67,11 @@ impl<'a> ExpressionTruth for InEnvironment<'a> {
     }
 }
 
-/// Whether a marker's formula holds in an environment with extras (PEP 508, "Environment Markers").
+/// Returns whether a marker's formula holds in an environment with extras (PEP 508, "Environment Markers").
 ///
 /// Each comparison is evaluated once; one with n versions takes O(n log n) comparisons of versions, and one
-/// of an extra goes through the extras. Takes memory for the range of one comparison at a time, and two bytes
-/// for each formula that is begun and not yet joined with another; no stack.
+/// of an extra goes through the extras. Takes memory for the range of one comparison at a time, and two
+/// bytes for each formula that is begun and not yet joined with another; no stack.
 pub fn holds_in(
     alloc: Global,
     formula: &MarkerFormula,

@@ -39,7 +39,7 @@ expression_of (rust.Extra operator name) = Extra operator (extra_of name)
 abbrev pub term_text : List ℕ → List ℕ → List ℕ → List ℕ
 term_text key operator value = key ++ codes " " ++ operator ++ codes " '" ++ value ++ codes "'"
 
--- a term whose quoted text stands first
+-- a term whose quoted text comes first
 abbrev pub turned_text : List ℕ → List ℕ → List ℕ → List ℕ
 turned_text key operator value = codes "'" ++ value ++ codes "' " ++ operator ++ codes " " ++ key
 

@@ -1,4 +1,4 @@
--- The operators of markers: their texts, and what bounds say with them (PEP 508, "Environment Markers").
+-- The operators of markers: their texts, and the comparisons of bounds (PEP 508, "Environment Markers").
 use Rattle.std.specs.Prelude.{ℕ, ◌&&◌, eqb, not, Bool, false, if◌then◌else◌, List, ◌++◌, drop}
 use Rattle.std.specs.Prelude.{codes, Option, Some, None, Result, Ok, Err}
 use Rattle.std.specs.Borrow.{Bor}
@@ -35,11 +35,11 @@ marker_operator_text NotIn = codes "not in"
 marker_operator_text Contains = codes "in"
 marker_operator_text NotContains = codes "not in"
 
--- `in` behind white space, of which there is some
+-- `in` after white space, of which there is some
 abbrev pub is_spaced_in : List ℕ → Bool
 is_spaced_in text = bytes_eq (trim_start text) (codes "in") && not (bytes_eq text (codes "in"))
 
--- what follows `not`, where it stands at the front
+-- the text after `not`, where it is at the front
 unfoldable pub behind_not : List ℕ → Option (List ℕ)
 behind_not text = if starts_with eqb text (codes "not") then Some (drop 3 text) else None
 
@@ -64,11 +64,11 @@ abbrev pub operator_or_message : List ℕ → Option MarkerOperator → Result M
 operator_or_message text (Some operator) = Ok operator
 operator_or_message text None = Err (codes "Invalid comparator: " ++ text)
 
--- the operator of a text, or what is said of one that is none
+-- the operator of a text, or the message where it is not one
 abbrev pub marker_operator_reading : List ℕ → Result MarkerOperator (List ℕ)
 marker_operator_reading text = operator_or_message text (marker_operator_of text)
 
--- what an error says of a text, if it is not want of memory
+-- the message of an error about a text, unless it is lack of memory
 abbrev pub told_text : MarkerTextError → Option (List ℕ)
 told_text (Text text) = Some (string_bytes text)
 told_text Memory = None
@@ -92,7 +92,7 @@ inverted NotIn = NotContains
 inverted Contains = In
 inverted NotContains = NotIn
 
--- the operator that says the opposite; `~=` has none
+-- the operator of the opposite; `~=` has none
 abbrev pub marker_negated : MarkerOperator → Option MarkerOperator
 marker_negated Equal = Some NotEqual
 marker_negated NotEqual = Some Equal
@@ -130,7 +130,7 @@ abbrev pub extra_negated : ExtraOperator → ExtraOperator
 extra_negated extras.Equal = extras.NotEqual
 extra_negated extras.NotEqual = extras.Equal
 
--- what stands between `extra` and a name, of all operators
+-- the operator between `extra` and a name, of all operators
 abbrev pub extra_operator : MarkerOperator → Option ExtraOperator
 extra_operator Equal = Some extras.Equal
 extra_operator NotEqual = Some extras.NotEqual
@@ -149,13 +149,13 @@ module _ {T : Type 0} where
   abbrev pub shown_bound : Bound (Bor T) → Bound T
   shown_bound bound = bound_map (λ value. value.now) bound
 
-  -- what a lower bound says
+  -- the comparison of a lower bound
   abbrev pub lower_term : Bound T → Option (MarkerOperator × T)
   lower_term (Included value) = Some (GreaterEqual, value)
   lower_term (Excluded value) = Some (GreaterThan, value)
   lower_term Unbounded = None
 
-  -- what an upper bound says
+  -- the comparison of an upper bound
   abbrev pub upper_term : Bound T → Option (MarkerOperator × T)
   upper_term (Included value) = Some (LessEqual, value)
   upper_term (Excluded value) = Some (LessThan, value)
@@ -176,7 +176,7 @@ module _ {T : Type 0} where
   single_or_both (Some term) lower upper = (Some term, None)
   single_or_both None lower upper = (lower_term lower, upper_term upper)
 
-  -- what two bounds say: one of both, or each for itself
+  -- the comparisons of two bounds: one for both, or one for each
   abbrev pub bound_terms : (T → T → Bool) → Bound T → Bound T
       → Option (MarkerOperator × T) × Option (MarkerOperator × T)
   bound_terms eq lower upper = single_or_both (single_term eq lower upper) lower upper

@@ -1,4 +1,4 @@
--- What stands on either side of an operator in a marker (PEP 508, "Environment Markers").
+-- The sides of an operator in a marker (PEP 508, "Environment Markers").
 use Rattle.std.specs.Prelude.{ℕ, if◌then◌else◌, List, ◌++◌, codes, Option, Some, None, option_map, Result, Ok}
 use Rattle.std.specs.Prelude.{Err}
 use Rattle.std.specs.Str.{bytes_eq}
@@ -13,7 +13,7 @@ use Rattle.pep508_marker.specs.declared.values.MarkerValueExtra.{MarkerValueExtr
 use Rattle.pep508_marker.specs.declared.values.MarkerValueExtra.TheVariants as extras
 use Rattle.pep508_marker.specs.Keys.{version_key_name, text_key_name}
 
--- what `extra` is compared with: a name in normal form, or a text that is no name
+-- the value that `extra` is compared with: a name in normal form, or a text that is not a name
 pub data ExtraRecord : Type 0 where
   Name : List ℕ → ExtraRecord
   Arbitrary : List ℕ → ExtraRecord
@@ -77,7 +77,7 @@ text_key_of text =
     else (if bytes_eq text (codes "sys.platform") then Some texts.SysPlatformDeprecated
     else None)))))))))))))
 
--- a text that is no key with versions as values: another key, or `extra`
+-- a text that is not a key with versions as values: another key, or `extra`
 abbrev pub other_key_of : List ℕ → Option ValueRecord
 other_key_of text =
     if bytes_eq text (codes "extra") then Some ExtraKey else option_map TextKey (text_key_of text)
@@ -94,6 +94,6 @@ abbrev pub key_or_message : List ℕ → Option ValueRecord → Result ValueReco
 key_or_message text (Some value) = Ok value
 key_or_message text None = Err (codes "Invalid key: " ++ text)
 
--- the key of a text, or what is said of one that is none
+-- the key of a text, or the message where it is not one
 abbrev pub key_reading : List ℕ → Result ValueRecord (List ℕ)
 key_reading text = key_or_message text (key_of_text text)

@@ -1,4 +1,4 @@
-//! Comparisons.
+//! Comparisons of markers.
 
 ghost use Rattle.std.specs.Prelude.{◌≡◌, IfOk};
 
@@ -10,8 +10,8 @@ use pep440_version::Version;
 use std::alloc::{AllocError, Global};
 use std::fmt;
 
-/// A comparison of a marker, as `python_version > '3.8'` (PEP 508, "Environment Markers"). A key stands on
-/// the left; one that was written on the right has its operator inverted.
+/// A comparison of a marker, as `python_version > '3.8'` (PEP 508, "Environment Markers"). The key is on
+/// the left; where it was written on the right, the operator is inverted.
 ///
 /// Prints as a marker's text. Compares and hashes by the variant, then by the fields in order.
 #[derive(Debug, PartialEq, Eq, PartialOrd, Ord, Hash, Drop)]
@@ -34,7 +34,7 @@ pub enum MarkerExpression {
         operator: MarkerOperator,
         value: String,
     },
-    /// An extra that is wanted.
+    /// The name of an extra that is requested, or not.
     Extra {
         operator: ExtraOperator,
         name: MarkerValueExtra,
@@ -44,7 +44,7 @@ pub enum MarkerExpression {
 impl MarkerExpression {
     ghost use Rattle.pep508_marker.specs.Expression.{expression_of};
 
-    /// A copy, in memory of its own.
+    /// Returns a copy, in memory of its own.
     pub fn try_clone(&self, alloc: Global) -> Result<MarkerExpression, AllocError>
         ensures { IfOk result (λ copy. expression_of copy ≡ expression_of self.now) }
     {

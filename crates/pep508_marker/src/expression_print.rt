@@ -1,4 +1,4 @@
-//! The prints of comparisons.
+//! How comparisons print.
 
 ghost use Rattle.std.specs.Prelude.{◌++◌, Some};
 ghost use Rattle.std.specs.List.{flat_map};
@@ -9,7 +9,7 @@ use crate::{MarkerExpression, MarkerOperator};
 use pep440_version::Version;
 use std::fmt;
 
-/// A version, and more with a blank before each.
+/// A printer of a version, and of more with a blank before each.
 #[derive(Clone, Copy)]
 struct Versions<'a> {
     first: &'a Version,
@@ -29,7 +29,7 @@ impl fmt::Display for Versions<'_> {
     }
 }
 
-/// Versions with a blank between them.
+/// A printer of versions with a blank between them.
 #[derive(Clone, Copy)]
 struct Spaced<'a> {
     versions: &'a [Version],

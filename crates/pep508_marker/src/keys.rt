@@ -18,7 +18,7 @@ pub enum MarkerValueVersion {
 }
 
 impl MarkerValueVersion {
-    /// The name, as it is written in a marker.
+    /// Returns the name, as it is written in a marker.
     pub fn name(self) -> &'static str
         ensures { result.now ≡ version_key_name self }
     {
@@ -75,7 +75,7 @@ pub enum MarkerValueString {
 }
 
 impl MarkerValueString {
-    /// The key as it is written in a marker, as `os.name`.
+    /// Returns the key as it is written in a marker, as `os.name`.
     pub fn written(self) -> &'static str
         ensures { result.now ≡ text_key_written self }
     {
@@ -98,14 +98,14 @@ impl MarkerValueString {
         }
     }
 
-    /// The modern name, as `os_name` for `os.name` too.
+    /// Returns the modern name, as `os_name` for `os.name` too.
     pub fn name(self) -> &'static str
         ensures { result.now ≡ text_key_name self }
     {
         self.modern().written()
     }
 
-    /// Whether the key is an old name of PEP 345.
+    /// Returns whether the key is an old name of PEP 345.
     pub fn is_deprecated(self) -> bool
         ensures { result ≡ is_deprecated self }
     {
@@ -120,7 +120,7 @@ impl MarkerValueString {
         )
     }
 
-    /// The key whose value is read: the modern one of an old name, else the key itself.
+    /// Returns the key whose value is read: the modern one of an old name, else the key itself.
     pub fn modern(self) -> MarkerValueString
         ensures { result ≡ modern self }
     {

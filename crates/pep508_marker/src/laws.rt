@@ -1,5 +1,4 @@
-//! Laws over the definitions that the contracts cite. The functions do nothing: each one's contract is its
-//! law.
+//! Laws of reporters. The functions do nothing: each one's contract is its law.
 
 ghost use Rattle.std.specs.Prelude.{◌≡◌, List, Ok};
 ghost use Rattle.std.specs.List.{FoldsTo};
@@ -10,8 +9,8 @@ ghost use Rattle.pep508_marker.specs.declared.reporters.ClosureReporter.{Closure
 use crate::{ClosureReporter, MarkerWarningKind, Reporter};
 use std::alloc::AllocError;
 
-/// Where a closure's reporter has taken warnings one after another, the closure has been called with the kind
-/// and the text of each, in order, and has taken each.
+/// Where a closure's reporter has received warnings one after another, the closure has been called with the
+/// kind and the text of each, in order, and has succeeded for each.
 pub fn closure_is_called_with_each<F: FnMut(MarkerWarningKind, String) -> Result<(), AllocError>>()
     ensures { (old new : _) (warnings : List Warning)
         → FoldsTo ⟦<ClosureReporter<F> as Reporter>⟧.takes old warnings new

@@ -1,5 +1,5 @@
-//! What markers of Python packages are made of, as PEP 508 has them: keys, operators, comparisons, and
-//! warnings with those who take them.
+//! The parts of markers of Python packages, as PEP 508 has them: keys, operators, comparisons, and warnings
+//! with their reporters.
 #![tactic(auto)]
 
 mod expression;

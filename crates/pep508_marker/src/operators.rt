@@ -17,7 +17,7 @@ use std::ops::Bound;
 
 /// How a key and a value are compared (PEP 508, "Environment Markers").
 ///
-/// Prints as its text, containment as `in` and `not in`, whose sides it exchanges.
+/// Prints as its text; containment prints as `in` and `not in`, with its sides exchanged.
 #[derive(Clone, Copy, Debug, PartialEq, Eq, PartialOrd, Ord, Hash)]
 pub enum MarkerOperator {
     /// `==`
@@ -40,14 +40,14 @@ pub enum MarkerOperator {
     NotIn,
     /// The text is part of the key's value, as in `'x' in os_name`.
     Contains,
-    /// The text is no part of the key's value.
+    /// The text is not part of the key's value.
     NotContains,
 }
 
-/// Why a text is no operator, or no key.
+/// Why a text is not an operator, or not a key.
 #[derive(Debug, PartialEq, Eq, Drop)]
 pub enum MarkerTextError {
-    /// What is said of the text, with the text in it.
+    /// The message, with the text in it.
     Text(String),
     /// Memory ran out.
     Memory,
@@ -77,14 +77,14 @@ impl fmt::Display for MarkerTextError {
 
 impl Error for MarkerTextError {}
 
-/// What follows `not`, where it stands at the front.
+/// Returns the text after `not`, where that is at the front.
 fn behind_not(text: &str) -> Option<&str>
     ensures { option_copied result ≡ behind_not text.now }
 {
     text.strip_prefix("not")
 }
 
-/// Whether the text is `not`, white space and `in`.
+/// Returns whether the text is `not`, white space and `in`.
 #[tactic(auto, unfolding(crate::specs::Operators::is_not_in))]
 fn is_not_in(text: &str) -> bool
     ensures { result ≡ is_not_in text.now }
@@ -96,10 +96,14 @@ fn is_not_in(text: &str) -> bool
 }
 
 impl MarkerOperator {
-    /// Reads an operator, as `>=`, with nothing around it. Between `not` and `in` stands white space, one
+    /// Reads an operator, as `>=`, with nothing around it. Between `not` and `in` there is white space, one
     /// character or more; containment is never read.
     ///
-    /// Takes memory for the error alone, which says `Invalid comparator: ` and the text.
+    /// Takes memory for the error alone.
+    ///
+    /// # Errors
+    /// `Text` with `Invalid comparator: ` and the text where it is not an operator; `Memory` where memory
+    /// ran out.
     #[tactic(auto, unfolding(crate::specs::Operators::marker_operator_of))]
     pub fn from_str(alloc: Global, text: &str) -> Result<MarkerOperator, MarkerTextError>
         ensures answered { Answers (λ operator. operator) told_text result
@@ -125,7 +129,7 @@ impl MarkerOperator {
         }
     }
 
-    /// The operator with the sides exchanged: `>` for `<`, containment for `in`.
+    /// Returns the operator with the sides exchanged: `>` for `<`, containment for `in`.
     pub fn invert(self) -> MarkerOperator
         ensures { result ≡ inverted self }
     {
@@ -142,7 +146,7 @@ impl MarkerOperator {
         }
     }
 
-    /// The operator that says the opposite; none for `~=`.
+    /// Returns the operator of the opposite; `None` for `~=`.
     pub fn negate(self) -> Option<MarkerOperator>
         ensures { result ≡ marker_negated self }
     {
@@ -161,7 +165,7 @@ impl MarkerOperator {
         }
     }
 
-    /// The operator of a specifier with the same sign; none for `in`, `not in` and containment.
+    /// Returns the specifiers' operator with the same sign; `None` for `in`, `not in` and containment.
     pub fn to_pep440_operator(self) -> Option<Operator>
         ensures { result ≡ specifier_operator self }
     {
@@ -177,8 +181,9 @@ impl MarkerOperator {
         }
     }
 
-    /// What two bounds say of a value: `==` where both are included and equal, `!=` where both are excluded
-    /// and equal, and else what each says for itself, the lower one first.
+    /// Returns the comparisons with a value that two bounds amount to: `==` where both are included and
+    /// equal, `!=` where both are excluded and equal, and else one for each bound that there is, the lower
+    /// one first.
     pub fn from_bounds<'a, T: PartialEq>(
         bounds: (Bound<&'a T>, Bound<&'a T>),
     ) -> (
@@ -205,7 +210,8 @@ impl MarkerOperator {
         }
     }
 
-    /// `>=` an included lower bound, `>` an excluded one, and nothing where there is no bound.
+    /// Returns the comparison of a lower bound: `>=` for an included one, `>` for an excluded one, and
+    /// `None` where there is no bound.
     pub fn from_lower_bound<T>(bound: Bound<&T>) -> Option<(MarkerOperator, &T)>
         ensures { option_map (λ term. (term.0, term.1.now)) result ≡ lower_term (shown_bound bound.entry) }
     {
@@ -216,7 +222,8 @@ impl MarkerOperator {
         }
     }
 
-    /// `<=` an included upper bound, `<` an excluded one, and nothing where there is no bound.
+    /// Returns the comparison of an upper bound: `<=` for an included one, `<` for an excluded one, and
+    /// `None` where there is no bound.
     pub fn from_upper_bound<T>(bound: Bound<&T>) -> Option<(MarkerOperator, &T)>
         ensures { option_map (λ term. (term.0, term.1.now)) result ≡ upper_term (shown_bound bound.entry) }
     {
@@ -256,7 +263,7 @@ pub enum ExtraOperator {
 }
 
 impl ExtraOperator {
-    /// The operator with the same sign; `extra` is compared by `==` and `!=` alone.
+    /// Returns the operator with the same sign; `None` for all but `==` and `!=`.
     pub fn from_marker_operator(operator: MarkerOperator) -> Option<ExtraOperator>
         ensures { result ≡ extra_operator operator }
     {
@@ -267,7 +274,7 @@ impl ExtraOperator {
         }
     }
 
-    /// The other operator.
+    /// Returns the other operator.
     pub fn negate(self) -> ExtraOperator
         ensures { result ≡ extra_negated self }
     {

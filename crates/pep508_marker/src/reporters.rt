@@ -1,4 +1,7 @@
-//! Who takes warnings: a closure, or a log.
+//! Reporters of warnings: a closure, or a log.
+//!
+//! A log is asked whether it accepts the level, under the target that the record would have, so that one
+//! that does not costs no texts.
 
 ghost use Rattle.std.specs.Prelude.{◌≡◌, Ok, IfSome};
 ghost use Rattle.std.specs.Bool.{OnFalse};
@@ -10,14 +13,15 @@ use crate::{MarkerWarningKind, Reporter};
 use log::{Level, Log, log_enabled, warn};
 use std::alloc::AllocError;
 
-/// Passes each warning to a closure. Where the closure answers that memory ran out, so does `report`.
+/// A reporter that passes each warning to a closure. Where the closure returns that memory ran out, so does
+/// `report`.
 #[derive(Drop)]
 pub struct ClosureReporter<F> {
     closure: F,
 }
 
 impl<F: FnMut(MarkerWarningKind, String) -> Result<(), AllocError>> ClosureReporter<F> {
-    /// A reporter that calls this closure with each warning.
+    /// Returns a reporter that calls this closure with each warning.
     pub fn new(closure: F) -> Self
         requires { F.IsAlwaysCallable closure }
         ensures { result.closure ≡ closure }
@@ -38,15 +42,15 @@ impl<F: FnMut(MarkerWarningKind, String) -> Result<(), AllocError>> Reporter
     }
 }
 
-/// Passes each warning to a log, at level warn. What the log makes of it no clause says. It wants warnings
-/// where the log takes that level, so that no text is made in vain.
+/// A reporter that passes each warning to a log, at level warn. No clause says what the log does with it.
+/// It wants warnings only where the log accepts that level, so that no text is made in vain.
 #[derive(Clone, Copy)]
 pub struct TracingReporter<'a, L> {
     log: &'a L,
 }
 
 impl<'a, L: Log> TracingReporter<'a, L> {
-    /// A reporter that writes to this log.
+    /// Returns a reporter that writes to this log.
     pub fn new(log: &'a L) -> Self
         ensures { result.log.now ≡ log.now }
     {

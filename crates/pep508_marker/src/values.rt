@@ -1,4 +1,4 @@
-//! What stands on either side of an operator.
+//! The sides of a comparison.
 
 ghost use Rattle.std.specs.Prelude.{◌≡◌, IfOk, None, Some, Err};
 ghost use Rattle.read_outcome.specs.Outcome.{Answers};
@@ -10,19 +10,20 @@ use pep508_name::ExtraName;
 use std::alloc::{AllocError, Global};
 use std::fmt;
 
-/// What `extra` is compared with. Prints as its text; compares and hashes by the variant, then by the bytes.
+/// The value that `extra` is compared with. Prints as its text; compares and hashes by the variant, then by
+/// the bytes.
 #[derive(Debug, PartialEq, Eq, PartialOrd, Ord, Hash, Drop)]
 pub enum MarkerValueExtra {
     /// The name of an extra.
     Extra(ExtraName),
-    /// A text that is no name, and so no extra.
+    /// A text that is not a name, and so not an extra.
     Arbitrary(String),
 }
 
 impl MarkerValueExtra {
     ghost use Rattle.pep508_marker.specs.Values.{extra_of};
 
-    /// A copy, in memory of its own.
+    /// Returns a copy, in memory of its own.
     pub fn try_clone(&self, alloc: Global) -> Result<MarkerValueExtra, AllocError>
         ensures { IfOk result (λ copy. extra_of copy ≡ extra_of self.now) }
     {
@@ -69,7 +70,10 @@ impl MarkerValue {
 
     /// Reads a key as it is written in a marker, as `os.name`, or `extra`, with nothing around it.
     ///
-    /// Takes memory for the error alone, which says `Invalid key: ` and the text.
+    /// Takes memory for the error alone.
+    ///
+    /// # Errors
+    /// `Text` with `Invalid key: ` and the text where it is not a key; `Memory` where memory ran out.
     pub fn from_str(alloc: Global, text: &str) -> Result<MarkerValue, MarkerTextError>
         ensures answered { Answers value_of told_text result (key_reading text.now) }
         ensures grown { result ≡ Err MarkerTextError.Memory → key_of_text text.now ≡ None }
@@ -89,7 +93,7 @@ impl MarkerValue {
         }
     }
 
-    /// A copy, in memory of its own.
+    /// Returns a copy, in memory of its own.
     pub fn try_clone(&self, alloc: Global) -> Result<MarkerValue, AllocError>
         ensures { IfOk result (λ copy. value_of copy ≡ value_of self.now) }
     {

@@ -1,4 +1,8 @@
-//! Warnings of markers, and who takes them.
+//! Warnings of markers, and reporters that receive them.
+//!
+//! What a reporter does with one warning is one step, `takes`, and several are a `FoldsTo` of it, so the
+//! trait needs no law. A reporter that wants nothing counts a dropped warning as taken: a caller may ask
+//! first or report at once, under one clause.
 
 ghost use Rattle.std.specs.Prelude.{◌≡◌, OnOk, false};
 ghost use Rattle.std.specs.Bool.{OnFalse};
@@ -19,32 +23,32 @@ pub enum MarkerWarningKind {
     LexicographicComparison,
     /// A key is compared with a key, as `os_name != sys_platform`.
     MarkerMarkerComparison,
-    /// What stands for a version, a list of versions or an operator on versions is none.
+    /// The text for a version, a list of versions or an operator on versions is invalid.
     Pep440Error,
     /// A quoted text is compared with a quoted text.
     StringStringComparison,
 }
 
-/// Who takes warnings.
+/// A receiver of warnings.
 pub trait Reporter {
     ghost use Rattle.pep508_marker.specs.Warnings.{Warning};
 
     /// A warning may be reported.
     ghost can_report: { Self → Type 0 } = { λ _. Unit {0} };
 
-    /// A warning that was taken leads from one state to another. Several are taken one after another, by
-    /// `FoldsTo`.
+    /// How a received warning leads from one state to another. Several warnings are received one after
+    /// another, by `FoldsTo`.
     ghost takes: { Self → Warning → Self → Type 0 };
 
-    /// Takes a warning. An error says that memory ran out.
+    /// Receives a warning. An error means that memory ran out.
     fn report(&mut self, kind: MarkerWarningKind, text: String) -> Result<(), AllocError>
         requires { can_report self.old }
         ensures again { can_report self.new }
         ensures taken { OnOk result
             (takes self.old (record { kind = kind; text = string_bytes text }) self.new) };
 
-    /// Whether warnings are to be reported. Where they are not, one that is left out counts as taken, so that
-    /// no text need be made.
+    /// Returns whether warnings are to be reported. Where they are not, one that is left out counts as
+    /// received, so that no text need be made.
     fn wants(&self) -> bool
         ensures { OnFalse result ((warning : Warning) → takes self.now warning self.now) }
     {
@@ -52,7 +56,7 @@ pub trait Reporter {
     }
 }
 
-/// Wants no warning, and drops those that it is given.
+/// A reporter that wants no warnings, and drops those that it receives.
 #[derive(Clone, Copy, Debug, Drop)]
 pub struct Silent;
 

@@ -1,11 +1,11 @@
-//! Keys by what is written in a marker.
+//! Keys by their names in a marker.
 
 ghost use Rattle.std.specs.Prelude.{◌≡◌};
 ghost use Rattle.pep508_marker.specs.Values.{version_key_of, text_key_of};
 
 use crate::{MarkerValueString, MarkerValueVersion};
 
-/// The key with versions as values that is written so.
+/// Returns the key with versions as values that is written as this text.
 #[tactic(auto, unfolding(crate::specs::Values::version_key_of))]
 pub(crate) fn version_key(text: &str) -> Option<MarkerValueVersion>
     ensures { result ≡ version_key_of text.now }
@@ -18,7 +18,7 @@ pub(crate) fn version_key(text: &str) -> Option<MarkerValueVersion>
     }
 }
 
-/// The key with texts as values that is written so.
+/// Returns the key with texts as values that is written as this text.
 #[tactic(auto, unfolding(crate::specs::Values::text_key_of))]
 pub(crate) fn text_key(text: &str) -> Option<MarkerValueString>
     ensures { result ≡ text_key_of text.now }

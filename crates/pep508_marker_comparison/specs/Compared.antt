@@ -1,4 +1,4 @@
--- What is said by a comparison of a marker, where something is (PEP 508, "Environment Markers").
+-- The meaning of a comparison of a marker, where it has one (PEP 508, "Environment Markers").
 use Rattle.std.specs.Prelude.{ℕ, Bool, true, false, List, [], ◌∷◌, map, filter, encode_utf8_all, Option, Some}
 use Rattle.std.specs.Prelude.{None, option_and_then}
 use Rattle.std.specs.Char.{is_whitespace}
@@ -28,7 +28,7 @@ use Rattle.pep508_marker.specs.Values.{Arbitrary}
 use Rattle.pep508_marker.specs.Expression.{ExpressionRecord}
 use Rattle.pep508_marker.specs.Expression as expression
 
--- what a comparison says, if anything, and of what kinds the warnings are
+-- a comparison, if it has a meaning, and the kinds of its warnings
 pub record Compared : Type 0 where
   pub said : Option ExpressionRecord
   pub warned : List MarkerWarningKind
@@ -50,7 +50,7 @@ abbrev pub of_specifier : MarkerValueVersion → Option SpecifierRecord → Comp
 of_specifier key (Some specifier) = says (expression.Version key specifier)
 of_specifier key None = left_out Pep440Error
 
--- the specifier of a pattern behind the key, which may have a star, or of a version before it, which may not
+-- the specifier of a pattern after the key, which may have a star, or of a version before it, which may not
 abbrev pub specifier_behind : MarkerOperator → List ℕ → Option SpecifierRecord
 specifier_behind operator text =
     option_and_then (λ pattern. option_and_then (λ sign. result_ok (built_of_pattern sign pattern))
@@ -74,7 +74,7 @@ abbrev pub versions_of : List (List ℕ) → Option (List VersionRecord)
 versions_of [] = Some []
 versions_of (text ∷ texts) = with_version (version_of text) (versions_of texts)
 
--- `in` and `not in` are no operators of a version, so a list that is none gives a second warning
+-- `in` and `not in` don't compare a single version, so an invalid list gives a second warning
 abbrev pub of_list : MarkerValueVersion → Bool → Option (List VersionRecord) → Compared → Compared
 of_list key negated (Some versions) otherwise = says (expression.VersionIn key versions negated)
 of_list key negated None otherwise = warned_before Pep440Error otherwise
@@ -87,7 +87,7 @@ version_before key NotIn text =
     of_list key true (versions_of (runs_of text)) (of_specifier key (specifier_behind NotIn text))
 version_before key operator text = of_specifier key (specifier_behind operator text)
 
--- a key of versions behind a text
+-- a text before a key of versions
 abbrev pub version_behind : MarkerValueVersion → MarkerOperator → List ℕ → Compared
 version_behind key operator text = of_specifier key (specifier_before (inverted operator) text)
 
@@ -97,7 +97,7 @@ abbrev pub text_compared : MarkerValueString → MarkerOperator → List ℕ →
 text_compared key TildeEqual text = left_out LexicographicComparison
 text_compared key operator text = says (expression.String key operator text)
 
--- the extra of a name, and one of a text that is no name
+-- the extra of a name, or of a text that is not a name
 abbrev pub extra_of : Option (List ℕ) → List ℕ → ExtraRecord
 extra_of (Some name) text = Name name
 extra_of None text = Arbitrary text

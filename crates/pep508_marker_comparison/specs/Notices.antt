@@ -1,4 +1,4 @@
--- What the warnings of comparisons are about (PEP 508, "Environment Markers").
+-- The kinds of the warnings of comparisons (PEP 508, "Environment Markers").
 use Rattle.pep508_marker.specs.declared.warnings.MarkerWarningKind.{MarkerWarningKind}
 use Rattle.pep508_marker.specs.declared.warnings.MarkerWarningKind.TheVariants.{ExtraInvalidComparison}
 use Rattle.pep508_marker.specs.declared.warnings.MarkerWarningKind.TheVariants.{LexicographicComparison}

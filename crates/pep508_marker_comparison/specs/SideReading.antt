@@ -1,4 +1,4 @@
--- What there is to read of the sides of a comparison and of the operator between them (PEP 508, "Environment
+-- The reading of the sides of a comparison and of the operator between them (PEP 508, "Environment
 -- Markers").
 use Rattle.std.specs.Prelude.{ℕ, ◌==◌, ◌||◌, not, Bool, if◌then◌else◌, List, [], ◌∷◌, length, drop, codes}
 use Rattle.std.specs.Prelude.{eqb}
@@ -14,14 +14,14 @@ use Rattle.pep508_marker.specs.Operators.{marker_operator_of}
 use Rattle.pep508_marker.specs.Values.{ValueRecord, Quoted, key_of_text}
 use Rattle.pep508_marker_comparison.specs.Compared.{Compared, compared}
 
--- why a text is no marker: by the grammar; since a number of a comparison can't be raised; since brackets
--- nest too deep
+-- why a text is not a marker: by the grammar; since a number of a comparison can't be raised; since
+-- brackets nest too deep
 pub data Refused : Type 0 where
   Malformed : Refused
   AtEnd : Refused
   TooDeep : Refused
 
--- what is read at the front of some characters, and the characters behind it
+-- what is read at the front of some characters, and the characters after it
 abbrev pub Reading : Type 0 → Type 0
 Reading A = Result (A × List ℕ) Refused
 
@@ -62,7 +62,7 @@ abbrev pub side_at : List ℕ → Reading ValueRecord
 side_at [] = Err Malformed
 side_at (c ∷ cs) = if is_quote c then quoted_at c cs else key_at (cut_before ends_key (c ∷ cs))
 
--- `in`, behind `not` and white space
+-- `in`, after `not` and white space
 abbrev pub in_at : List ℕ → Reading MarkerOperator
 in_at cs = if starts_with eqb cs (codes "in") then Ok (NotIn, drop 2 cs) else Err Malformed
 
@@ -95,13 +95,13 @@ behind_operator left found =
 abbrev pub behind_side : ValueRecord × List ℕ → Reading Compared
 behind_side left = operator_at (skip_leading_whitespace left.1) >>= behind_operator left.0
 
--- what the comparison says that stands at the front
+-- the comparison at the front
 unfoldable pub compared_at : List ℕ → Reading Compared
 compared_at cs = side_at cs >>= behind_side
 
 abbrev pub if_end : {A : Type 0} → A × List ℕ → Result A Refused
 if_end found = if length (skip_leading_whitespace found.1) == 0 then Ok found.0 else Err Malformed
 
--- what the comparison says that some characters are
+-- the comparison that some characters are
 unfoldable pub expression_at : List ℕ → Result Compared Refused
 expression_at cs = compared_at (skip_leading_whitespace cs) >>= if_end

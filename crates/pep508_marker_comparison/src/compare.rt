@@ -1,4 +1,4 @@
-//! What two sides with an operator between them say.
+//! The comparison that two sides with an operator between them express.
 
 ghost use Rattle.std.specs.Prelude.{◌≡◌, IfOk};
 ghost use Rattle.std.specs.String.{string_bytes};
@@ -14,7 +14,8 @@ use pep508_marker::{
 };
 use std::alloc::{AllocError, Global};
 
-/// What a comparison says, if anything. The warnings are reported in their order.
+/// Returns the comparison that two sides and an operator express, if any. The warnings are reported in
+/// their order.
 pub(crate) fn compare<R: Reporter>(
     alloc: Global,
     reporter: &mut R,
@@ -39,7 +40,7 @@ pub(crate) fn compare<R: Reporter>(
     }
 }
 
-/// A key of versions before another side.
+/// Makes the comparison of a key of versions with another side.
 #[tactic(auto, unfolding(crate::specs::Compared::compared))]
 fn compare_version_key<R: Reporter>(
     alloc: Global,
@@ -63,7 +64,7 @@ fn compare_version_key<R: Reporter>(
     }
 }
 
-/// A key of texts before another side.
+/// Makes the comparison of a key of texts with another side.
 #[tactic(auto, unfolding(crate::specs::Compared::compared))]
 fn compare_text_key<R: Reporter>(
     alloc: Global,
@@ -85,7 +86,7 @@ fn compare_text_key<R: Reporter>(
     }
 }
 
-/// `extra` before another side.
+/// Makes the comparison of `extra` with another side.
 #[tactic(auto, unfolding(crate::specs::Compared::compared))]
 fn compare_extra_key<R: Reporter>(
     alloc: Global,
@@ -106,7 +107,7 @@ fn compare_extra_key<R: Reporter>(
     }
 }
 
-/// A quoted text before another side: a key stands on the left in what is said.
+/// Makes the comparison of a quoted text with another side; in the result a key is on the left.
 #[tactic(auto, unfolding(crate::specs::Compared::compared))]
 fn compare_quoted<R: Reporter>(
     alloc: Global,

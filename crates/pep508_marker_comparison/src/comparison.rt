@@ -13,11 +13,14 @@ use pep508_error::{Cursor, Refusal};
 use pep508_marker::{MarkerExpression, Reporter};
 use std::alloc::Global;
 
-/// The comparison that stands at a place, and the place behind it (PEP 508, "Environment Markers"); nothing
-/// where it is left out. Its warnings are reported in their order.
+/// Reads the comparison at a place (PEP 508, "Environment Markers"), and returns it with the place after
+/// it; `None` where the comparison is meaningless and left out. Its warnings are reported in their order.
 ///
-/// Linear in its text; takes memory for what it says, for the texts of the warnings that are wanted, and for
-/// a refusal, which shows the part at fault.
+/// Linear in its text; takes memory for the comparison, for the texts of the warnings that are wanted, and
+/// for a refusal.
+///
+/// # Errors
+/// The part at fault where there is no comparison at the place, or lack of memory.
 #[tactic(auto, unfolding(crate::specs::SideReading::compared_at))]
 pub fn read_comparison<'a, R: Reporter>(
     alloc: Global,

@@ -16,7 +16,7 @@ use pep508_marker::{
 use pep508_name::{ExtraName, InvalidNameError};
 use std::alloc::{AllocError, Global};
 
-/// A key of texts before a text.
+/// Makes the comparison of a key of texts with a text; `~=` is left out with a warning.
 pub(crate) fn compare_text<R: Reporter>(
     alloc: Global,
     reporter: &mut R,
@@ -39,7 +39,8 @@ pub(crate) fn compare_text<R: Reporter>(
     }
 }
 
-/// `extra` and a text.
+/// Makes the comparison of `extra` with a text; operators other than `==` and `!=` are left out with a
+/// warning.
 pub(crate) fn compare_extra<R: Reporter>(
     alloc: Global,
     reporter: &mut R,
@@ -58,7 +59,7 @@ pub(crate) fn compare_extra<R: Reporter>(
     }
 }
 
-/// The extra that a text names, or the text itself, with a warning.
+/// Returns the extra that a text names, or the text itself, with a warning.
 fn name_extra<R: Reporter>(
     alloc: Global,
     reporter: &mut R,

@@ -1,6 +1,9 @@
-//! Reading the comparisons of environment markers (PEP 508, "Environment Markers"): two sides with an
-//! operator between them, and what they say. A comparison without a meaning is left out, with a warning.
 #![tactic(auto)]
+//! Reading the comparisons of environment markers (PEP 508, "Environment Markers"): two sides with an
+//! operator between them, and what they express. A meaningless comparison is left out, with a warning.
+//!
+//! The crate needs no trees, so that trees and comparisons are proved side by side. `comparison_at` is
+//! `compared_at` and then the test that no number is too great, which needs the definitions of trees.
 
 mod compare;
 mod comparison;

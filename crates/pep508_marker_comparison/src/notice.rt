@@ -1,4 +1,7 @@
-//! What is said of a comparison that means nothing, or not what it seems to.
+//! Warnings of comparisons that are meaningless, or don't mean what they seem to.
+//!
+//! A warning's text is made only where the reporter wants warnings: a `Notice` borrows the parts and prints
+//! as the text. The contract states the warning's kind and not its text.
 
 ghost use Rattle.std.specs.Prelude.{◌≡◌, OnOk, IfOk, ◌∷◌, []};
 ghost use Rattle.pep508_marker_comparison.specs.Notices.{kind_of};
@@ -22,15 +25,16 @@ const EXTRA: &str =
 /// A warning whose text is yet to be made. Prints as that text.
 #[derive(Clone, Copy)]
 pub(crate) enum Notice<'a> {
-    /// Behind a key of versions stands another side than a quoted text.
+    /// A key of versions is compared with something other than a quoted text.
     Unquoted(MarkerValueVersion, &'a MarkerValue),
-    /// A run of the text behind `in` or `not in` is no version.
+    /// A word of the text after `in` or `not in` is not a version.
     Listed(MarkerValueVersion, &'a str, &'a VersionParseError),
-    /// The text behind a key is no version and no pattern of versions, or that before one no version.
+    /// The text after a key is neither a version nor a pattern of versions, or that before one is not a
+    /// version.
     Pattern(MarkerValueVersion, &'a str, &'a VersionPatternParseError),
-    /// The operator compares no versions.
+    /// The operator doesn't compare versions.
     Operator(MarkerValueVersion, &'a Version, MarkerOperator),
-    /// The operator and the version make no specifier.
+    /// The operator doesn't allow the version.
     Combination(&'a VersionSpecifierBuildError),
     /// A key of texts is compared with a key.
     Keys,
@@ -38,14 +42,14 @@ pub(crate) enum Notice<'a> {
     Compatible,
     /// `extra` is compared with a key, or by an operator that names don't have.
     Extra,
-    /// `extra` is compared with a text that is no name.
+    /// `extra` is compared with a text that is not a name.
     Name(&'a str, &'a InvalidNameError),
     /// A quoted text is compared with a quoted text.
     Quoted(&'a str, MarkerOperator, &'a str),
 }
 
 impl Notice<'_> {
-    /// What the warning is about.
+    /// Returns the kind of the warning.
     pub(crate) fn kind(&self) -> MarkerWarningKind
         ensures { result ≡ kind_of self.now }
     {
@@ -120,7 +124,7 @@ pub(crate) fn warn<R: Reporter>(
     reporter.report(notice.kind(), text)
 }
 
-/// A comparison that is left out with a warning.
+/// Leaves a comparison out, with a warning.
 pub(crate) fn leave_out<R: Reporter>(
     alloc: Global,
     reporter: &mut R,

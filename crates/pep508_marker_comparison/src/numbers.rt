@@ -14,7 +14,7 @@ use pep440_version::VersionPatternParseError;
 use pep508_marker::{MarkerExpression, MarkerOperator, MarkerValueVersion, Reporter};
 use std::alloc::{AllocError, Global};
 
-/// A key before a text: of one version or pattern, or of a list of versions.
+/// Makes the comparison of a key with a text: one version or pattern, or a list of versions.
 pub(crate) fn compare_version<R: Reporter>(
     alloc: Global,
     reporter: &mut R,
@@ -34,7 +34,7 @@ pub(crate) fn compare_version<R: Reporter>(
     }
 }
 
-/// A key before a list, or before a text that is none.
+/// Makes the comparison of a key with a list; where the text is not a list, with a pattern, after a warning.
 fn compare_list<R: Reporter>(
     alloc: Global,
     reporter: &mut R,
@@ -62,7 +62,7 @@ fn compare_list<R: Reporter>(
     }
 }
 
-/// A key before a version or a pattern.
+/// Makes the comparison of a key with a version or a pattern.
 fn compare_pattern<R: Reporter>(
     alloc: Global,
     reporter: &mut R,
@@ -94,7 +94,8 @@ fn compare_pattern<R: Reporter>(
     }
 }
 
-/// A version before a key, with the operator as it is between the key and the version.
+/// Makes the comparison of a version with a key, where the operator is already that between the key and the
+/// version.
 pub(crate) fn compare_turned<R: Reporter>(
     alloc: Global,
     reporter: &mut R,
@@ -125,7 +126,8 @@ pub(crate) fn compare_turned<R: Reporter>(
     }
 }
 
-/// The comparison by a specifier, if an operator and a version made one.
+/// Returns the comparison by a specifier; where the operator doesn't allow the version it is left out with
+/// a warning.
 fn say<R: Reporter>(
     alloc: Global,
     reporter: &mut R,

@@ -15,7 +15,7 @@ use pep508_error::{Cursor, Refusal};
 use pep508_marker::MarkerOperator;
 use std::alloc::Global;
 
-/// An operator at a place, of letters or of signs, and the place behind it.
+/// Reads an operator at a place, of letters or of signs, and returns it with the place after it.
 pub(crate) fn read_operator<'a>(
     alloc: Global,
     start: Cursor<'a>,
@@ -35,7 +35,7 @@ pub(crate) fn read_operator<'a>(
     }
 }
 
-/// The refusal of a text that is no operator.
+/// Returns the refusal of a text that is not an operator.
 fn refuse_operator<'a>(alloc: Global, start: Cursor<'a>, text: &str, end: Cursor<'a>) -> Refusal<'a>
     requires { IsBehind start end }
     ensures fits { Fits result.kind Malformed }
@@ -49,7 +49,7 @@ fn refuse_operator<'a>(alloc: Global, start: Cursor<'a>, text: &str, end: Cursor
     )
 }
 
-/// An operator as far as no character of a kind ends it.
+/// Reads an operator that ends before the first character of a kind.
 fn read_up_to<'a>(
     alloc: Global,
     start: Cursor<'a>,
@@ -69,7 +69,7 @@ fn read_up_to<'a>(
     }
 }
 
-/// White space and `in`, behind `not`.
+/// Reads the white space and `in` after `not`.
 fn read_in<'a>(
     alloc: Global,
     start: Cursor<'a>,
@@ -93,7 +93,7 @@ fn read_in<'a>(
     }
 }
 
-/// `in` at a place, behind `not` and white space.
+/// Reads `in` at a place, after `not` and white space.
 fn read_letters<'a>(
     alloc: Global,
     start: Cursor<'a>,

@@ -1,4 +1,6 @@
 //! Reading a text that is one comparison.
+//!
+//! These are functions because a type of another crate gets methods only by a trait.
 
 ghost use Rattle.std.specs.Prelude.{◌≡◌, IfErr};
 ghost use Rattle.std.specs.Str.{chars};
@@ -15,11 +17,14 @@ use pep508_marker::{MarkerExpression, Reporter, Silent};
 use pep508_url::Pep508Url;
 use std::alloc::Global;
 
-/// Reads a comparison, as `python_version > '3.8'`, with white space around it; nothing where it is left out
-/// (PEP 508, "Environment Markers"). Its warnings are reported in their order.
+/// Reads a comparison, as `python_version > '3.8'`, with white space around it; `None` where it is
+/// meaningless and left out (PEP 508, "Environment Markers"). Its warnings are reported in their order.
 ///
-/// Linear in the text; takes memory for what it says, for the texts of the warnings that are wanted, and for
-/// an error, which shows the part at fault.
+/// Linear in the text; takes memory for the comparison, for the texts of the warnings that are wanted, and
+/// for an error.
+///
+/// # Errors
+/// `String` with the part at fault where the text is not a comparison; `Memory` where memory ran out.
 pub fn parse_expression_reporter<T: Pep508Url, R: Reporter>(
     alloc: Global,
     text: &str,
@@ -37,6 +42,9 @@ pub fn parse_expression_reporter<T: Pep508Url, R: Reporter>(
 }
 
 /// Reads a comparison as `parse_expression_reporter` does, and drops its warnings.
+///
+/// # Errors
+/// Those of `parse_expression_reporter`.
 pub fn parse_expression<T: Pep508Url>(
     alloc: Global,
     text: &str,
@@ -46,7 +54,7 @@ pub fn parse_expression<T: Pep508Url>(
     parse_expression_reporter(alloc, text, &mut Silent)
 }
 
-/// The comparison that stands at a place, with nothing but white space behind it.
+/// Reads the comparison at a place, after which only white space may be left.
 #[tactic(auto, unfolding(crate::specs::SideReading::expression_at))]
 fn read_whole<'a, R: Reporter>(
     alloc: Global,

@@ -10,14 +10,14 @@ ghost use Rattle.pep508_marker_comparison.specs.Outcome.{Fits};
 use pep508_error::{Cursor, Refusal, RefusalKind};
 use std::alloc::{AllocError, Global};
 
-/// That a text is malformed, or want of memory for the message.
+/// Returns the refusal of a malformed text with this message, or of lack of memory for it.
 pub fn malformed(message: Result<String, AllocError>) -> RefusalKind
     ensures { Fits result Malformed }
 {
     RefusalKind::string(message)
 }
 
-/// The refusal of what stands at a place, up to and without the text's last character.
+/// Returns the refusal of the text from a place on, up to and without its last character.
 pub fn refuse_rest<'a>(place: Cursor<'a>, kind: RefusalKind) -> Refusal<'a>
     ensures kind { result.kind ≡ kind }
     ensures of { IsOf place.entry result }
@@ -25,7 +25,7 @@ pub fn refuse_rest<'a>(place: Cursor<'a>, kind: RefusalKind) -> Refusal<'a>
     place.refuse_to(last_of(place), kind)
 }
 
-/// The place of the text's last character, or of the end where none follows.
+/// Returns the place of the text's last character, or of the end where none follows.
 fn last_of(start: Cursor<'_>) -> Cursor<'_>
     ensures { IsBehind start.entry result }
 {
@@ -38,7 +38,10 @@ fn last_of(start: Cursor<'_>) -> Cursor<'_>
     last
 }
 
-/// The place behind a character that has to follow.
+/// Returns the place after a character that has to follow.
+///
+/// # Errors
+/// What follows instead of the character, or lack of memory for the message.
 pub fn expect<'a>(alloc: Global, place: Cursor<'a>, wanted: char) -> Result<Cursor<'a>, Refusal<'a>>
     ensures cases { MatchResult result
         (λ later. behind place.entry ≡ wanted ∷ behind later)

@@ -14,7 +14,7 @@ use pep508_error::{Cursor, Refusal};
 use pep508_marker::MarkerValue;
 use std::alloc::Global;
 
-/// A quoted text or a key at a place, and the place behind it.
+/// Reads a quoted text or a key at a place, and returns it with the place after it.
 pub(crate) fn read_side<'a>(
     alloc: Global,
     start: Cursor<'a>,
@@ -37,7 +37,7 @@ pub(crate) fn read_side<'a>(
     }
 }
 
-/// The text up to a quote, behind an opening one.
+/// Reads the text up to a quote, after an opening one.
 fn read_quoted<'a>(
     alloc: Global,
     opening: Cursor<'a>,
@@ -59,7 +59,7 @@ fn read_quoted<'a>(
     }
 }
 
-/// A key.
+/// Reads a key.
 fn read_key<'a>(alloc: Global, start: Cursor<'a>) -> Result<(MarkerValue, Cursor<'a>), Refusal<'a>>
     ensures read { Reads value_of result (key_at (cut_before ends_key (behind start.entry))) }
     ensures stays { StaysIn start.entry result }

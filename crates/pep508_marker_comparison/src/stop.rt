@@ -1,4 +1,6 @@
-//! What ends the pieces of a comparison.
+//! The characters that end the pieces of a comparison.
+//!
+//! What ends a piece is an enum, so that one function cuts all pieces and is proved once.
 
 ghost use Rattle.pep508_marker_comparison.specs.Stops.{stops_at};
 
@@ -7,11 +9,11 @@ use pep508_error::Stop;
 /// A kind of character that ends a piece.
 #[derive(Clone, Copy)]
 pub(crate) enum PieceEnd {
-    /// What ends a key.
+    /// A character that ends a key.
     Key,
-    /// What ends an operator of letters.
+    /// A character that ends an operator of letters.
     Word,
-    /// What is no sign of an operator.
+    /// A character that is not a sign of an operator.
     Signs,
 }
 

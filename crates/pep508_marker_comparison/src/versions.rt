@@ -1,4 +1,4 @@
-//! The versions and patterns that texts are.
+//! Reading versions and patterns from texts.
 
 ghost use Rattle.std.specs.Prelude.{◌≡◌, [], ◌∷◌, option_map, IfOk, MatchOption};
 ghost use Rattle.std.specs.Result.{result_ok};
@@ -9,7 +9,7 @@ use pep440_version::{Version, VersionParseError, VersionPattern, VersionPatternP
 use pep508_error::{Space, split};
 use std::alloc::{AllocError, Global};
 
-/// The version that a text is, or why it is none.
+/// Returns the version that a text is, or why it is not a version.
 #[tactic(auto, using(pep440_version::proofs::Found::reads_found))]
 pub(crate) fn read_version(
     alloc: Global,
@@ -23,7 +23,7 @@ pub(crate) fn read_version(
     }
 }
 
-/// The pattern that a text is, or why it is none.
+/// Returns the pattern that a text is, or why it is not a pattern.
 #[tactic(auto, using(pep440_version::proofs::Found::reads_found))]
 pub(crate) fn read_pattern(
     alloc: Global,
@@ -37,8 +37,8 @@ pub(crate) fn read_pattern(
     }
 }
 
-/// The versions that the runs of a text between white space are, in their order, or why the first of them
-/// that is no version is none. A text without runs has none.
+/// Returns the versions in a text between white space, in their order, or why the first of these words that
+/// is not a version is not one. A text of white space alone has none.
 ///
 /// Linear in the text.
 pub(crate) fn read_versions(
@@ -60,7 +60,8 @@ pub(crate) fn read_versions(
     Ok(Ok(versions))
 }
 
-/// The first run of a text that is no white space, and what stands behind it, if there is one.
+/// Splits off the first word of a text that is not white space, and returns it with the text after it, if
+/// there is one.
 fn next_run(text: &str) -> Option<(&str, &str)>
     ensures { MatchOption result (runs_of text.now ≡ [])
         (λ found. runs_of text.now ≡ found.0.now ∷ runs_of found.1.now) }

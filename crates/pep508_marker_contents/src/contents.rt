@@ -1,4 +1,6 @@
-//! Marker trees but for the one that always holds.
+//! Marker trees that do not always hold.
+//!
+//! `contents` is given the interner because its contract says when there are none by what the tree means.
 
 ghost use Rattle.std.specs.Prelude.{◌≡◌, ◌≢◌, ◌↔◌, true, IsNone, unwrap_or};
 ghost use Rattle.pep508_diagram.specs.Question.{Valuation};
@@ -9,7 +11,7 @@ use pep508_tree::{Interner, MarkerTree};
 use pep508_tree_laws::constants_are_named;
 use std::marker::Model;
 
-/// A marker tree that doesn't always hold, and so has a text. Contracts see it as the tree.
+/// A marker tree that doesn't always hold, and so has a text. Its model in contracts is the tree.
 #[derive(Clone, Copy, Debug, PartialEq, Eq, Hash)]
 pub struct MarkerTreeContents {
     tree: MarkerTree,
@@ -29,7 +31,7 @@ impl Model for MarkerTreeContents {
 }
 
 impl MarkerTreeContents {
-    /// The tree, lent.
+    /// Returns the tree, borrowed.
     pub fn as_tree(&self) -> &MarkerTree
         ensures tree { result.now ≡ self.now }
         ensures contents { result.now ≢ always }
@@ -37,7 +39,7 @@ impl MarkerTreeContents {
         &self.tree
     }
 
-    /// The tree.
+    /// Returns the tree.
     pub fn into_tree(self) -> MarkerTree
         ensures tree { result ≡ self }
         ensures contents { result ≢ always }
@@ -50,17 +52,18 @@ impl MarkerTreeContents {
 pub trait MarkerTreeWithContents {
     ghost use Rattle.pep508_tree.specs.Tree.{Tree};
 
-    /// The tree that a value names.
+    /// The tree that a value is.
     ghost named: { Self → Tree };
 
-    /// The tree; none where it holds whatever the environment and the extras are. Takes no memory.
+    /// Returns the tree's contents; `None` where it holds whatever the environment and the extras are.
+    /// Takes no memory.
     fn contents(self, interner: &Interner) -> Option<MarkerTreeContents>
         requires { IsTree interner.now.nodes (named self) }
         ensures tree { unwrap_or result always ≡ named self }
         ensures none { IsNone result
             ↔ ((v : Valuation) → holds interner.now.nodes (named self) v ≡ true) };
 
-    /// The tree of these contents; where there are none, the one that always holds. Takes no memory.
+    /// Returns the tree of these contents; the tree that always holds for `None`. Takes no memory.
     fn from_contents(contents: Option<MarkerTreeContents>) -> Self
         ensures { named result ≡ unwrap_or contents always };
 }

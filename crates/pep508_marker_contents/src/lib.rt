@@ -1,4 +1,4 @@
-//! Marker trees that say something (PEP 508, "Environment Markers"), and marker trees as JSON values.
+//! Marker trees that do not always hold (PEP 508, "Environment Markers"), and marker trees as JSON values.
 #![tactic(auto)]
 
 mod contents;

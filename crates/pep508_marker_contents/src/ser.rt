@@ -12,15 +12,15 @@ use pep508_tree::{Interner, MarkerTree};
 use serde_json::Value;
 use std::alloc::{AllocError, Global};
 
-/// Whether the tree always holds, so that it has no JSON value. Takes no memory.
+/// Returns whether the tree always holds, so that it has no JSON value. Takes no memory.
 pub fn is_empty(tree: MarkerTree) -> bool
     ensures { IsTrue result ↔ (tree ≡ always) }
 {
     tree.is_true()
 }
 
-/// The tree as a JSON text, which `MarkerTree::from_value` reads: the text of `try_to_string`; none where
-/// the tree always holds. Takes what `try_to_string` takes.
+/// Returns the tree as a JSON text, which `MarkerTree::from_value` reads: the text of `try_to_string`;
+/// `None` where the tree always holds. Its costs are those of `try_to_string`.
 pub fn to_value(
     alloc: Global,
     tree: MarkerTree,

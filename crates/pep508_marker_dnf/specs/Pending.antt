@@ -6,6 +6,6 @@ use Rattle.pep508_marker_dnf.specs.Steps.{StepRecord, step_of}
 abbrev pub waits_shown : List Pending → List (ℕ × StepRecord)
 waits_shown waiting = map (λ pending. (pending.depth, step_of pending.step)) waiting
 
--- steps behind one path
+-- steps after one path
 abbrev pub all_at : ℕ → List StepRecord → List (ℕ × StepRecord)
 all_at depth steps = map (λ step. (depth, step)) steps

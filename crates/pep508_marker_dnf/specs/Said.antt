@@ -1,4 +1,4 @@
--- The comparisons of a key, by how its value stands to another one.
+-- The comparisons of a key, by how its value compares with another one.
 use Rattle.std.specs.Prelude.{Bool, true, false, List, map, Option, option_to_list}
 use Rattle.pep508_marker.specs.declared.operators.MarkerOperator.{MarkerOperator}
 use Rattle.pep508_marker.specs.declared.operators.MarkerOperator.TheVariants as texts

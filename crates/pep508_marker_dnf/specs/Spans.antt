@@ -1,4 +1,4 @@
--- What the program reads off intervals: the terms of values, or of one star, that are left out.
+-- The program's reading of intervals: the terms of values, or of one star, that are left out.
 use Rattle.std.specs.Prelude.{Bool, true, false, cond, List, [], ◌∷◌, Option, Some, None, option_map}
 use Rattle.std.specs.Option.{option_or}
 use Rattle.std.specs.Ordering.{eq_by_cmp}
@@ -14,23 +14,23 @@ use Rattle.pep508_marker_text.specs.Saying.{Clause, Saying}
 use Rattle.pep508_tree.specs.Tree.{Tree}
 use Rattle.pep508_marker_dnf.specs.Trees.{is_at}
 
--- the intervals from a lower bound on, up to the first boundary
+-- the intervals from a lower bound on, up to the first endpoint
 abbrev pub begun : {T : Type 0} → Bound T → List (Boundary T) → List (Bound T × Bound T)
 begun lower [] = (lower, Unbounded) ∷ []
 begun lower (boundary ∷ later) =
     (lower, upper_bound_at (point_of boundary)) ∷ intervals (turns_of false later)
 
--- the intervals of where a tree stands, or any other one, from some branches on
+-- the intervals in which a tree is the child, or any other one is, from some branches on
 abbrev pub spans : {T : Type 0} → Tree → Bool → Bool → List (Branch T Tree) → List (Bound T × Bound T)
 spans tree outside held later = intervals (turns_of held (turning (is_at tree outside) held later))
 
--- those from a lower bound on, behind which the branches stand
+-- the intervals from a lower bound on, which the branches follow
 abbrev pub spans_behind : {T : Type 0} → Tree → Bool → Bound T → List (Branch T Tree)
     → List (Bound T × Bound T)
 spans_behind tree outside lower later = begun lower (turning (is_at tree outside) true later)
 
 module _ {T : Type 0} where
-  -- the value of an interval that is a single one
+  -- the value of an interval that is a single value
   abbrev pub value_between : (T → T → Ordering) → Bound T → Bound T → Option T
   value_between cmp (Included v) (Included w) = cond (eq_by_cmp cmp v w) (Some v) None
   value_between cmp lower upper = None
@@ -50,7 +50,7 @@ module _ {T : Type 0} where
     star_between (Included v) (Excluded w) = option_map (λ term. term ∷ []) (say.no_star v w)
     star_between lower upper = None
 
-    -- that the value is none of a star's, where the one interval that is left out is what a star says
+    -- the clause that the value is none of a star's, where the one interval that is left out is a star's
     abbrev pub star_from : List (Bound T × Bound T) → Option Clause
     star_from (bounds ∷ []) = star_between bounds.0 bounds.1
     star_from left = None

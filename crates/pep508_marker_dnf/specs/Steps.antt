@@ -1,4 +1,4 @@
--- What leads from a tree to its subtrees: the terms that say for which answers a subtree stands.
+-- The steps from a tree to its subtrees: the terms for the values that lead to a subtree.
 use Rattle.std.specs.Prelude.{Bool, List, [], ◌∷◌, ◌++◌, map, Option, Some, None}
 use Rattle.std.specs.List.{filter, flat_map}
 use Rattle.pep508_diagram.specs.declared.branch.Branch.{Branch}
@@ -37,7 +37,7 @@ abbrev pub group_steps : {T : Type 0} → Saying T → Tree → List (Branch T T
 group_steps say first later tree =
     steps_to tree (set_clauses say (points_where (same_tree tree) first later))
 
--- those between the boundaries of a key
+-- the steps between the endpoints of a key
 abbrev pub branch_steps : {T : Type 0} → Saying T → Tree → List (Branch T Tree) → List StepRecord
 branch_steps say first later =
     flat_map (group_steps say first later) (firsts same_tree (standing first later))
@@ -58,6 +58,6 @@ root_steps (Some node) = node_steps node
 abbrev pub clauses_by : (Tree → List Clause) → List StepRecord → List Clause
 clauses_by at steps = flat_map (λ step. map (λ clause. step.clause ++ clause) (at step.tree)) steps
 
--- the clauses behind a path of terms, but for one without terms
+-- the clauses after a path of terms, but for one without terms
 abbrev pub behind : Clause → List Clause → List Clause
 behind path clauses = filter has_some (map (λ clause. path ++ clause) clauses)

@@ -1,4 +1,4 @@
--- The extra that all clauses ask for.
+-- The extra that all clauses require.
 use Rattle.std.specs.Prelude.{Bool, false, List, [], ◌∷◌, Option, Some, None, option_map}
 use Rattle.std.specs.List.{list_all}
 use Rattle.std.specs.Option.{option_or, option_map_or}
@@ -12,7 +12,7 @@ use Rattle.pep508_marker_text.specs.SameTerms.{same_extra}
 use Rattle.pep508_marker_text.specs.Saying.{Clause}
 use Rattle.pep508_marker_text.specs.Terms.{kept_where}
 
--- the extra that a comparison asks for by `==`
+-- the extra that a comparison requires by `==`
 abbrev pub extra_asked : ExpressionRecord → Option ExtraRecord
 extra_asked (Version key specifier) = None
 extra_asked (VersionIn key versions negated) = None
@@ -20,7 +20,7 @@ extra_asked (String key operator text) = None
 extra_asked (Extra extras.Equal asked) = Some asked
 extra_asked (Extra extras.NotEqual asked) = None
 
--- the first one that a clause asks for
+-- the first extra that a clause requires
 abbrev pub first_extra : Clause → Option ExtraRecord
 first_extra [] = None
 first_extra (term ∷ terms) = option_or (extra_asked term) (first_extra terms)

@@ -1,4 +1,4 @@
-//! The extra that all clauses ask for.
+//! The extra that all clauses require.
 
 ghost use Rattle.std.specs.Prelude.{◌≡◌, option_map};
 ghost use Rattle.std.specs.List.{list_all};
@@ -10,7 +10,7 @@ ghost use Rattle.pep508_marker_dnf.specs.TopExtra.{extra_asked, first_extra, ask
 use pep508_marker::{ExtraOperator, MarkerExpression, MarkerValueExtra};
 use pep508_marker_print::is_same_extra;
 
-/// The extra that a comparison asks for by `==`.
+/// Returns the extra that a comparison requires by `==`.
 fn extra_asked(term: &MarkerExpression) -> Option<&MarkerValueExtra>
     ensures { option_map (λ extra. extra_of extra.now) result ≡ extra_asked (expression_of term.now) }
 {
@@ -23,7 +23,7 @@ fn extra_asked(term: &MarkerExpression) -> Option<&MarkerValueExtra>
     }
 }
 
-/// The first extra that a clause asks for.
+/// Returns the first extra that a clause requires.
 fn first_extra(clause: &[MarkerExpression]) -> Option<&MarkerValueExtra>
     ensures { option_map (λ extra. extra_of extra.now) result ≡ first_extra (clause_of clause.now) }
 {
@@ -35,7 +35,7 @@ fn first_extra(clause: &[MarkerExpression]) -> Option<&MarkerValueExtra>
     None
 }
 
-/// Whether a clause asks for an extra first.
+/// Returns whether this is the first extra that a clause requires.
 fn asks_first(extra: &MarkerValueExtra, clause: &[MarkerExpression]) -> bool
     ensures { result ≡ asks_first (extra_of extra.now) (clause_of clause.now) }
 {
@@ -45,7 +45,7 @@ fn asks_first(extra: &MarkerValueExtra, clause: &[MarkerExpression]) -> bool
     }
 }
 
-/// Whether all clauses ask for an extra first.
+/// Returns whether this is the first extra that every clause requires.
 fn all_ask(extra: &MarkerValueExtra, clauses: &[Vec<MarkerExpression>]) -> bool
     ensures { result ≡ list_all (asks_first (extra_of extra.now)) (clauses_shown clauses.now) }
 {
@@ -57,7 +57,7 @@ fn all_ask(extra: &MarkerValueExtra, clauses: &[Vec<MarkerExpression>]) -> bool
     true
 }
 
-/// The first extra that each clause asks for, where each asks for one and all are the same.
+/// Returns the first extra that each clause requires, where each requires one and all are the same.
 pub(crate) fn common_extra(clauses: &[Vec<MarkerExpression>]) -> Option<&MarkerValueExtra>
     ensures { option_map (λ extra. extra_of extra.now) result ≡ common_extra (clauses_shown clauses.now) }
 {

@@ -1,4 +1,7 @@
-//! The intervals in which a tree stands, read off the branches of a node.
+//! The intervals in which a child of a node applies, read off the node's branches.
+//!
+//! The intervals are read directly off where the tree is and where it is not; no list of boundaries is
+//! made.
 
 ghost use Rattle.std.specs.Prelude.{◌≡◌, ◌<◌, ◌≤◌, ◌+◌, [], ◌∷◌, true, false, not, cond, length, MatchOption};
 ghost use Rattle.std.specs.Range.Bound.{bound_map};
@@ -12,14 +15,14 @@ use pep508_tree::MarkerTree;
 use std::ops::Bound;
 use version_ranges::Boundary;
 
-/// Whether two trees are one.
+/// Returns whether two trees are the same.
 pub(crate) fn is_same(tree: MarkerTree, other: MarkerTree) -> bool
     ensures { result ≡ same_tree tree other }
 {
     tree == other
 }
 
-/// Whether a tree is the given one; where the flag is set, whether it is another one.
+/// Returns whether a child is the given tree; with `outside`, whether it is another one.
 fn is_at(tree: MarkerTree, outside: bool, child: MarkerTree) -> bool
     ensures { result ≡ is_at tree outside child }
 {
@@ -30,7 +33,8 @@ fn is_at(tree: MarkerTree, outside: bool, child: MarkerTree) -> bool
     }
 }
 
-/// The next boundary from which on the tree stands, or no longer does, and the branches behind it.
+/// Returns the next endpoint from which on the tree is the child, or no longer is, and the branches after
+/// it; with `outside` the other way round.
 fn next_turn<'a, T>(
     tree: MarkerTree,
     outside: bool,
@@ -57,7 +61,7 @@ fn next_turn<'a, T>(
     None
 }
 
-/// Where the next interval begins, and the branches behind that.
+/// Returns the lower bound of the next interval, and the branches after that.
 fn next_lower<'a, T>(
     tree: MarkerTree,
     outside: bool,
@@ -76,7 +80,7 @@ fn next_lower<'a, T>(
     Some((boundary.as_lower_bound(), left))
 }
 
-/// Where an interval that has begun ends, and the branches behind that.
+/// Returns the upper bound of an interval that has begun, and the branches after that.
 fn next_upper<'a, T>(
     tree: MarkerTree,
     outside: bool,
@@ -92,7 +96,8 @@ fn next_upper<'a, T>(
     }
 }
 
-/// The next interval in which the tree stands, or in which it does not, and the branches behind it.
+/// Returns the next interval in which the tree is the child, or with `outside` in which it is not, and the
+/// branches after it.
 pub(crate) fn next_interval<'a, T>(
     tree: MarkerTree,
     outside: bool,

@@ -1,5 +1,5 @@
-//! What marker trees print (PEP 508, "Environment Markers"): the clauses of a tree, of which one holds where
-//! the tree does, and their text. Contracts see a comparison as an `ExpressionRecord`.
+//! How marker trees print (PEP 508, "Environment Markers"): the clauses of a tree, one of which holds where
+//! the tree does, and their text. The model of a comparison in contracts is an `ExpressionRecord`.
 #![tactic(auto)]
 
 mod extra;

@@ -1,4 +1,8 @@
-//! The comparisons in which a key's values are said.
+//! The comparisons that express a key's values.
+//!
+//! A star stands for release versions alone: what lies from `3.8` to below `3.9` is written as a star where
+//! the bounds equal these releases, of epoch 0 and without suffix or local part. A lower bound `3.8a1`
+//! begins no star, and `3` counts as `3.0`.
 
 ghost use Rattle.std.specs.Prelude.{◌≡◌, [], ◌∷◌, cond, IfOk, option_map};
 ghost use Rattle.std.specs.Ordering.{eq_by_cmp};
@@ -20,7 +24,7 @@ use pep508_marker::{
 };
 use std::alloc::{AllocError, Global};
 
-/// How a key's value stands to another one.
+/// How a key's value compares with another one.
 #[derive(Clone, Copy)]
 pub(crate) enum Relation {
     Equal,
@@ -31,17 +35,17 @@ pub(crate) enum Relation {
     Below,
 }
 
-/// What says where a key's value lies.
+/// A maker of the comparisons that express where a key's value lies.
 pub(crate) trait Says<T> {
     ghost use Rattle.pep508_marker_text.specs.Saying.{Saying};
 
     ghost saying: { Self → Saying T };
 
-    /// Whether two values are one.
+    /// Returns whether two values are equal.
     fn are_equal(&self, value: &T, other: &T) -> bool
         ensures { result ≡ eq_by_cmp (saying self.now).cmp value.now other.now };
 
-    /// The comparison with a value.
+    /// Returns the comparison with a value.
     fn term(
         &self,
         alloc: Global,
@@ -51,8 +55,8 @@ pub(crate) trait Says<T> {
         ensures { IfOk result (λ term.
             expression_of term ≡ said (saying self.now) relation value.now) };
 
-    /// The comparison of a star, which stands for the values from one on up to below another; by `!=` where
-    /// the flag is set. None where no star does.
+    /// Returns the comparison with a star for the values from `lower` on up to below `upper`, by `!=` where
+    /// `negated`; `None` where no star expresses these.
     fn star(
         &self,
         alloc: Global,
@@ -64,19 +68,19 @@ pub(crate) trait Says<T> {
             option_map expression_of found ≡ star_said (saying self.now) negated lower.now upper.now) };
 }
 
-/// What says versions of a variable.
+/// The maker of comparisons of a variable's versions.
 #[derive(Clone, Copy)]
 pub(crate) struct SaysVersions {
     pub variable: VersionVariable,
 }
 
-/// What says texts of a key.
+/// The maker of comparisons of a key's texts.
 #[derive(Clone, Copy)]
 pub(crate) struct SaysTexts {
     pub key: MarkerValueString,
 }
 
-/// The key that is written for a variable.
+/// Returns the key that is written for a variable.
 fn key_of_variable(variable: VersionVariable) -> MarkerValueVersion
     ensures { result ≡ key_of_variable variable }
 {
@@ -86,7 +90,7 @@ fn key_of_variable(variable: VersionVariable) -> MarkerValueVersion
     }
 }
 
-/// The release `a.b`, where one version is it and the other one is `a.(b+1)`.
+/// Returns the release `a.b`, where the lower version equals it and the upper one equals `a.(b+1)`.
 fn minor_between(
     alloc: Global,
     lower: &Version,
@@ -106,7 +110,7 @@ fn minor_between(
     }
 }
 
-/// Whether a version equals the release `a.b`, and another one `a.(b+1)`.
+/// Returns whether a version equals the release `a.b`, and another one `a.(b+1)`.
 fn is_minor_of(release: &Version, lower: &Version, upper: &Version) -> bool
     requires { release.now ≡ release_record release.now.release }
     ensures { result ≡ is_minor_of lower.now upper.now release.now.release }
@@ -120,7 +124,7 @@ fn is_minor_of(release: &Version, lower: &Version, upper: &Version) -> bool
     is_next_minor(release, upper)
 }
 
-/// Two release numbers; the second is 0 where there is one alone.
+/// Returns the two numbers of a release; the second is 0 where there is only one.
 fn two_numbers(release: &[u64]) -> Option<(u64, u64)>
     ensures { option_map (λ numbers. numbers.0 ∷ numbers.1 ∷ []) result ≡ two_numbers release.now }
 {
@@ -190,7 +194,7 @@ fn text_operator(relation: Relation) -> MarkerOperator
     }
 }
 
-/// The comparison of a text.
+/// Returns the comparison with a text.
 fn text_term(
     alloc: Global,
     key: MarkerValueString,
@@ -235,7 +239,7 @@ impl Says<MarkerText> for SaysTexts {
     }
 }
 
-/// The comparison of an extra.
+/// Returns the comparison with an extra.
 fn extra_term(name: MarkerValueExtra, set: bool) -> MarkerExpression
     ensures { expression_of result ≡ Extra (cond set extras.Equal extras.NotEqual) (extra_of name) }
 {
@@ -247,7 +251,7 @@ fn extra_term(name: MarkerValueExtra, set: bool) -> MarkerExpression
     MarkerExpression::Extra { operator, name }
 }
 
-/// The comparison that says whether a flag is set.
+/// Returns the comparison that expresses whether a flag is set.
 pub(crate) fn flag_term(
     alloc: Global,
     flag: &Flag,

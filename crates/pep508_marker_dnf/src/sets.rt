@@ -1,4 +1,4 @@
-//! The clauses of which one holds where a key's value lies where a tree stands.
+//! The clauses for one child of a node: one holds exactly where the key's value leads to that child.
 
 ghost use Rattle.std.specs.Prelude.{◌≡◌, [], ◌∷◌, ◌++◌, true, false, map, IfOk, option_map};
 ghost use Rattle.std.specs.Range.Bound.{bound_map};
@@ -20,7 +20,7 @@ use pep508_tree::MarkerTree;
 use std::alloc::{AllocError, Global};
 use std::ops::Bound;
 
-/// The value of an interval that is a single one.
+/// Returns the value of an interval that is a single value.
 fn value_between<'a, T, S: Says<T>>(
     says: &S,
     lower: Bound<&'a T>,
@@ -41,7 +41,7 @@ fn value_between<'a, T, S: Says<T>>(
     }
 }
 
-/// The one comparison of an interval, where there is one.
+/// Returns the one comparison that expresses an interval, where there is one.
 fn single_term<T, S: Says<T>>(
     alloc: Global,
     says: &S,
@@ -64,7 +64,7 @@ fn single_term<T, S: Says<T>>(
     }
 }
 
-/// The comparison of a lower bound.
+/// Returns the comparison of a lower bound, where there is a bound.
 fn lower_term<T, S: Says<T>>(
     alloc: Global,
     says: &S,
@@ -80,7 +80,7 @@ fn lower_term<T, S: Says<T>>(
     }
 }
 
-/// The comparison of an upper bound.
+/// Returns the comparison of an upper bound, where there is a bound.
 fn upper_term<T, S: Says<T>>(
     alloc: Global,
     says: &S,
@@ -96,7 +96,7 @@ fn upper_term<T, S: Says<T>>(
     }
 }
 
-/// The terms that are there, in turn.
+/// Returns the terms that are there, in order.
 fn present(
     alloc: Global,
     first: Option<MarkerExpression>,
@@ -114,7 +114,7 @@ fn present(
     Ok(terms)
 }
 
-/// The comparisons of an interval.
+/// Returns the comparisons of an interval.
 fn interval_clause<T, S: Says<T>>(
     alloc: Global,
     says: &S,
@@ -132,7 +132,7 @@ fn interval_clause<T, S: Says<T>>(
     present(alloc, first, second)
 }
 
-/// The clause of each interval in which a tree stands.
+/// Returns the clause of each interval in which the tree is the child.
 fn interval_clauses<T, S: Says<T>>(
     alloc: Global,
     says: &S,
@@ -155,8 +155,8 @@ fn interval_clauses<T, S: Says<T>>(
     Ok(clauses)
 }
 
-/// That the value differs from each single one at which the tree does not stand, where these are all such
-/// values. The tree stands below the first boundary.
+/// Returns the clause that the value differs from each value at which the tree is not the child, where
+/// these are all single values; else `None`. Below the first endpoint the tree is the child.
 fn differs_from<T, S: Says<T>>(
     alloc: Global,
     says: &S,
@@ -179,7 +179,8 @@ fn differs_from<T, S: Says<T>>(
     Ok(Some(terms))
 }
 
-/// The comparison of the star for which the values between two bounds stand, by `!=`.
+/// Returns the comparison by `!=` with the star that the values between two bounds are, where they are a
+/// star's.
 fn star_between<T, S: Says<T>>(
     alloc: Global,
     says: &S,
@@ -202,8 +203,8 @@ fn star_between<T, S: Says<T>>(
     }
 }
 
-/// That the value is none of a star's, where these are all at which the tree does not stand. The tree stands
-/// below the first boundary.
+/// Returns the clause that the value is none of a star's, where these are all at which the tree is not the
+/// child; else `None`. Below the first endpoint the tree is the child.
 fn star_from<T, S: Says<T>>(
     alloc: Global,
     says: &S,
@@ -222,8 +223,8 @@ fn star_from<T, S: Says<T>>(
     star_between(alloc, says, lower, upper)
 }
 
-/// What the value differs from, where the tree stands below the first boundary and for all values but single
-/// ones, or for all but those of a star.
+/// Returns the clause of what the value differs from, where the tree is the child below the first endpoint
+/// and for all values but single ones, or for all but those of a star; else `None`.
 fn exclusion<T, S: Says<T>>(
     alloc: Global,
     says: &S,
@@ -239,7 +240,7 @@ fn exclusion<T, S: Says<T>>(
     star_from(alloc, says, tree, later)
 }
 
-/// One clause.
+/// Returns a list of this one clause.
 fn alone(
     alloc: Global,
     clause: Vec<MarkerExpression>,
@@ -251,7 +252,8 @@ fn alone(
     Ok(clauses)
 }
 
-/// The clauses of where a tree stands: one of what the value differs from, or one of each interval.
+/// Returns the clauses for where the tree is the child: one of what the value differs from, or one for each
+/// interval.
 #[tactic(auto, using(crate::proofs::Spanning::excluded, crate::proofs::Spanning::none_excluded, crate::proofs::Spanning::not_below))]
 pub(crate) fn set_clauses<T, S: Says<T>>(
     alloc: Global,

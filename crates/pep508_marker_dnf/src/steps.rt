@@ -1,4 +1,8 @@
-//! What leads from a tree to its subtrees.
+//! The steps from a tree to its subtrees, each with its terms.
+//!
+//! The node at a root gives its steps, each some terms and a subtree; what they say is proved of one node.
+//! Subtrees are grouped by comparing each with those found before, at most as often as the simplification
+//! compares clauses. Two subtrees are one where their names are, by the law that a diagram has one place.
 
 ghost use Rattle.std.specs.Prelude.{◌≡◌, [], ◌∷◌, ◌++◌, cond, map, IfOk, OnOk};
 ghost use Rattle.std.specs.List.{list_any};
@@ -20,7 +24,7 @@ use pep508_marker::MarkerExpression;
 use pep508_tree::{Interner, MarkerTree, TreeNode};
 use std::alloc::{AllocError, Global};
 
-/// Terms, and the tree that they lead to.
+/// Terms, and the subtree to which they lead.
 #[derive(Drop)]
 pub(crate) struct Step {
     pub terms: Vec<MarkerExpression>,
@@ -38,7 +42,7 @@ fn contains(trees: &[MarkerTree], tree: MarkerTree) -> bool
     false
 }
 
-/// Adds a tree where it is none of the others.
+/// Adds a tree unless it is there already.
 fn add_new(trees: &mut Vec<MarkerTree>, tree: MarkerTree) -> Result<(), AllocError>
     ensures { OnOk result (trees.new.items ≡ with_tree trees.old.items tree) }
 {
@@ -49,7 +53,7 @@ fn add_new(trees: &mut Vec<MarkerTree>, tree: MarkerTree) -> Result<(), AllocErr
     Ok(())
 }
 
-/// The trees of branches, each once.
+/// Returns the children of branches, each once.
 #[tactic(auto, using(crate::proofs::Grouping::found_first))]
 fn groups<T>(
     alloc: Global,
@@ -65,7 +69,7 @@ fn groups<T>(
     Ok(trees)
 }
 
-/// Adds a step for each clause, to one tree.
+/// Adds a step to one tree for each clause.
 fn add_all(
     clauses: Vec<Vec<MarkerExpression>>,
     tree: MarkerTree,
@@ -80,7 +84,7 @@ fn add_all(
     Ok(())
 }
 
-/// The steps between the boundaries of a key; their trees are negated where the flag is set.
+/// Returns the steps to the children of a key's node; the children are negated where `negated`.
 fn branch_steps<T, S: Says<T>>(
     alloc: Global,
     says: &S,
@@ -100,7 +104,7 @@ fn branch_steps<T, S: Says<T>>(
     Ok(steps)
 }
 
-/// The steps of a flag: where it is set, and where it is not.
+/// Returns the steps of a flag: where it is set, and where it is not.
 fn flag_steps(
     alloc: Global,
     flag: &Flag,
@@ -114,7 +118,7 @@ fn flag_steps(
     Ok(vec![in alloc; set, unset]?)
 }
 
-/// The step of a flag that is set, or that is not.
+/// Returns the step of a flag that is set, or that is not.
 fn flag_step(alloc: Global, flag: &Flag, set: bool, tree: MarkerTree) -> Result<Step, AllocError>
     ensures { IfOk result (λ step. step_of step
         ≡ record { clause = cond set (set_term flag.now) (unset_term flag.now) ∷ []; tree = tree }) }
@@ -124,7 +128,7 @@ fn flag_step(alloc: Global, flag: &Flag, set: bool, tree: MarkerTree) -> Result<
     Ok(Step { terms, tree })
 }
 
-/// The steps from a tree to those that stand in the node at its root; a constant has none.
+/// Returns the steps from a tree to the children of its root node; a constant has none.
 #[tactic(auto, using(crate::proofs::Stepping::shown_versions, crate::proofs::Stepping::shown_texts))]
 pub(crate) fn root_steps(
     alloc: Global,

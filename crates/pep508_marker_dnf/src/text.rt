@@ -1,4 +1,4 @@
-//! The clauses and the text of a marker tree.
+//! The clauses and the text of a marker tree, as a trait of trees.
 
 ghost use Rattle.std.specs.Prelude.{◌≡◌, ◌≢◌, IfOk, IfErr, option_map};
 ghost use Rattle.std.specs.String.{string_bytes};
@@ -16,7 +16,7 @@ use pep508_marker_print::{clauses_text, simplified_clauses};
 use pep508_tree::{Interner, MarkerTree};
 use std::alloc::{AllocError, Global};
 
-/// The simplified clauses of a tree.
+/// Returns the simplified clauses of a tree.
 #[tactic(auto, using(crate::proofs::Constants::no_clauses))]
 fn disjunction(
     alloc: Global,
@@ -35,7 +35,7 @@ fn disjunction(
     simplified_clauses(alloc, clauses)
 }
 
-/// The comparison of the extra that all clauses ask for, in memory of its own.
+/// Returns the comparison of the extra that all clauses require, in memory of its own.
 fn extra_term(
     alloc: Global,
     clauses: &[Vec<MarkerExpression>],
@@ -56,15 +56,16 @@ fn extra_term(
 pub trait MarkerTreeText {
     ghost use Rattle.pep508_tree.specs.Tree.{Tree};
 
-    /// The tree that a value names.
+    /// The tree that a value is.
     ghost named: { Self → Tree };
 
-    /// The simplified clauses of the tree, of which one holds where the tree does, each in the order of the
-    /// variables; none where the tree always holds or never.
+    /// Returns the simplified clauses of the tree: the tree holds where one of them does, and each is in
+    /// the order of the variables. There are none where the tree always holds or never.
     ///
     /// Walks each path from the root to where the tree holds, and copies a comparison once for each clause
-    /// that it stands in. Of the subtrees between the boundaries of one key, and of the clauses where they
-    /// are simplified, each is compared with each other one at most. No recursion, however deep the tree is.
+    /// that contains it. Of the subtrees between the endpoints of one key, and of the clauses where they
+    /// are simplified, each is compared with each other one at most. No recursion, however deep the tree
+    /// is.
     fn to_dnf(
         self,
         alloc: Global,
@@ -75,17 +76,17 @@ pub trait MarkerTreeText {
             clauses_shown clauses.items ≡ disjunction (diagram_of interner.now.nodes (named self))) }
         ensures grown { IfErr result (λ error. named self ≢ always) };
 
-    /// The text of the tree, as `python_full_version >= '3.8' and os_name == 'nt'`: its clauses with `or`
-    /// between them. A tree that always holds has none; one that never does has a text that hardly any
-    /// version meets. Takes what `to_dnf` takes, and the text.
+    /// Returns the text of the tree, as `python_full_version >= '3.8' and os_name == 'nt'`: its clauses
+    /// with `or` between them. A tree that always holds has none; one that never does has a text that
+    /// hardly any version meets. Costs are those of `to_dnf`, and the text.
     fn try_to_string(self, alloc: Global, interner: &Interner) -> Result<Option<String>, AllocError>
         requires { IsTree interner.now.nodes (named self) }
         ensures text { IfOk result (λ text. option_map string_bytes text
             ≡ marker_text (diagram_of interner.now.nodes (named self))) }
         ensures grown { IfErr result (λ error. named self ≢ always) };
 
-    /// The comparison `extra == '..'` that comes first among such ones in each clause of `to_dnf`, where each
-    /// clause has one and all are of one extra; else none. Takes what `to_dnf` takes.
+    /// Returns the comparison `extra == '..'` that comes first among such ones in each clause of `to_dnf`,
+    /// where each clause has one and all are of one extra; else `None`. Costs are those of `to_dnf`.
     fn top_level_extra(
         self,
         alloc: Global,

@@ -1,4 +1,9 @@
 //! The walk from a tree to its clauses.
+//!
+//! The steps that wait are a list, so nothing recurses. A step adds its terms to one list, which is cut
+//! back where the next step begins, so that a clause costs its own terms alone; it is copied where the walk
+//! ends. That the walk ends is shown by the number of steps on all paths, which the program never counts
+//! (`proofs/Walking.antt`).
 
 ghost use Rattle.std.specs.Prelude.{◌≡◌, [], ◌∷◌, ◌++◌, take, reverse, IfOk, OnOk};
 ghost use Rattle.std.specs.List.{filter};
@@ -41,14 +46,14 @@ fn add_clause(
     Ok(())
 }
 
-/// A step that waits, and how many terms of the path lead up to it.
+/// A step left to do, and the number of terms on the path that lead up to it.
 #[derive(Drop)]
 pub(crate) struct Pending {
     depth: usize,
     step: Step,
 }
 
-/// Puts steps behind those that wait, the first one last.
+/// Pushes steps onto those left to do, the first one last.
 fn add_steps(waiting: &mut Vec<Pending>, depth: usize, steps: Vec<Step>) -> Result<(), AllocError>
     ensures { OnOk result (waits_shown waiting.new.items
         ≡ waits_shown waiting.old.items ++ all_at depth (reverse (steps_shown steps.items))) }
@@ -60,7 +65,7 @@ fn add_steps(waiting: &mut Vec<Pending>, depth: usize, steps: Vec<Step>) -> Resu
     Ok(())
 }
 
-/// Puts the terms of a step behind those that lead up to it.
+/// Cuts the path to the terms that lead up to a step, and appends the step's terms.
 fn go_on(
     path: &mut Vec<MarkerExpression>,
     depth: usize,
@@ -75,8 +80,8 @@ fn go_on(
     Ok(())
 }
 
-/// The clauses of a tree, but for one without terms. What waits stands on a list, the steps of one path
-/// behind one another, so that a long path takes memory and no stack.
+/// Returns the clauses of a tree, but for one without terms. The steps left to do are kept in a list, those
+/// of one path after one another, so that a long path takes memory and no stack.
 pub(crate) fn clauses_of(
     alloc: Global,
     tree: MarkerTree,

@@ -1,4 +1,4 @@
--- The key of what a marker means (PEP 508, "Environment Markers"): the bytes of its diagram.
+-- The key of a marker's meaning (PEP 508, "Environment Markers"): the bytes of its diagram.
 use Rattle.std.specs.Prelude.{◌≡◌, ◌↔◌, ℕ, List, [], ◌++◌, None}
 use Rattle.pep440_key.specs.Key.{component_bytes, version_bytes}
 use Rattle.pep508_diagram.specs.Diagram.{Diagram}
@@ -7,7 +7,7 @@ use Rattle.pep508_diagram.specs.Question.{marker, truth, IsCanonical}
 use Rattle.pep508_marker_key.specs.Told.{listed_bytes, boundary_bytes}
 use Rattle.pep508_marker_key.specs.Walk.{written}
 
--- a question: the place of its variable, and the boundary that is asked for, of a version or of a text
+-- a question: the rank of its variable, and its endpoint, of a version or of a text
 unfoldable pub question_bytes : Question → List ℕ
 question_bytes q =
     component_bytes (place_of q)

@@ -1,4 +1,4 @@
--- What is left to write of a diagram, one thing after another, and the bytes of it.
+-- The parts of a diagram that are left to write, one after another, and their bytes.
 use Rattle.std.specs.Prelude.{◌≡◌, ℕ, ◌+◌, ◌*◌, ◌<◌, Bool, List, [], ◌∷◌, ◌++◌, Option, Some, None, length}
 use Rattle.std.specs.Prelude.{map, reverse}
 use Rattle.std.specs.List.{AllByRecursion}
@@ -15,14 +15,14 @@ use Rattle.pep508_marker_key.specs.declared.walk.Step.TheVariants as step
 use Rattle.pep508_marker_key.specs.Walk.{Written, leaf_byte, both, written}
 use Rattle.pep508_marker_key.specs.Key.{question_bytes}
 
--- a diagram that begins a node, one that goes on with the node before it, and one that is numbered
+-- a diagram that begins a node, one that continues the node before it, and one that is numbered
 pub data Item (Q : Type 0) : Type 0 where
   Begun : Diagram Q → Item Q
   GoneOn : Diagram Q → Item Q
   Closed : Diagram Q → Item Q
 
 module _ {Q V : Type 0} (ask : Asking Q V) (bytes : Q → List ℕ) where
-  -- what is written of a diagram that goes on with a node
+  -- the bytes of a diagram that continues a node
   abbrev pub in_line : List (Diagram Q) → Diagram Q → Written Q
   in_line numbered (Leaf b) = record { bytes = leaf_byte b ∷ []; numbered = numbered }
   in_line numbered (Test q low high) =
@@ -42,7 +42,7 @@ module _ {Q V : Type 0} (ask : Asking Q V) (bytes : Q → List ℕ) where
 
 -- ---- steps of the program
 
--- a node from a boundary on, with a tree below it
+-- a node from an endpoint on, with a tree below it
 abbrev pub node_from : NodeRecord → Tree → ℕ → NodeRecord
 node_from (Versions key first later) low index = Versions key low (drop index later)
 node_from (Texts key first later) low index = Texts key low (drop index later)
@@ -53,7 +53,7 @@ abbrev pub first_of : Option NodeRecord → Option Tree
 first_of None = None
 first_of (Some node) = Some (first_child node)
 
--- steps for what stands on both sides of the first of some boundaries, the next one last
+-- steps for both sides of the first of some endpoints, the next one last
 abbrev pub sides : {T : Type 0} → Tree → Tree → ℕ → Bool → List (Branch T Tree) → List Step
 sides tree low index negated [] = []
 sides tree low index negated (branch ∷ []) =
@@ -78,7 +78,7 @@ module _ (nodes : List NodeRecord) where
   branch_diagram None low index = diagram_of nodes low
   branch_diagram (Some node) low index = node_diagram (diagram_of nodes) (node_from node low index)
 
-  -- what a step writes
+  -- the part of a diagram that a step writes
   abbrev pub item_of : Step → Item Question
   item_of (step.Enter tree) = Begun (diagram_of nodes tree)
   item_of (step.Branch tree low index) = GoneOn (branch_diagram (root_of nodes tree) low index)
@@ -99,7 +99,7 @@ module _ (nodes : List NodeRecord) where
   abbrev pub items_of : List Step → List (Item Question)
   items_of steps = map item_of (reverse steps)
 
-  -- the question of a tree's node at a boundary was written: what stands on its two sides is what is left
+  -- the question of a tree's node at an endpoint was written: its two sides are what is left
   pub record IsAsked (tree low : Tree) (index : ℕ) (key new_key : List ℕ) (steps new_steps : List Step)
       : Type 0 where
     pub bytes : List ℕ
@@ -111,7 +111,7 @@ module _ (nodes : List NodeRecord) where
         bytes_left numbered (item_of (step.Branch tree low index) ∷ items)
         ≡ (2 ∷ bytes) ++ bytes_left numbered (item_of (step.Enter low) ∷ item_of high ∷ items)
 
-  -- a step was made: bytes were written, and other steps stand for what is left of it
+  -- a step was made: bytes were written, and other steps replace it for what is left
   pub record IsMade (next : Step) (key new_key : List ℕ) (steps new_steps : List Step)
       (numbered new_numbered : List Tree) : Type 0 where
     pub bytes : List ℕ

@@ -1,4 +1,9 @@
-//! Keys of marker trees, as a call on them.
+//! Keys of marker trees, as a trait of trees.
+//!
+//! A key is written from the diagram and not from the print, which leaves out a local part, an old name of
+//! a key and what a quote hides, and can be exponentially longer. Numbers and texts within a key are those
+//! of `pep440_key`, which end by themselves, so that nothing that follows can be read as a part of them; a
+//! length in front would need a bound on lengths.
 
 ghost use Rattle.std.specs.Prelude.{◌≡◌, IfOk};
 ghost use Rattle.pep508_diagram.specs.Question.{IsCanonical};
@@ -14,17 +19,17 @@ use std::alloc::{AllocError, Global};
 pub trait MarkerTreeKey {
     ghost use Rattle.pep508_tree.specs.Tree.{Tree};
 
-    /// The tree.
+    /// The tree that a value is.
     ghost tree: { Self → Tree };
 
-    /// The key of what the tree means: the keys of two trees, of whatever interners and written however, are
-    /// the same bytes exactly where the two hold under the same valuations (`laws::one_key`). So keys can be
-    /// compared, hashed, sorted and kept in place of trees; their order means nothing more.
+    /// Returns the key of the tree's meaning: the keys of two trees, of whatever interners and written
+    /// however, are the same bytes exactly where the two hold under the same valuations (`laws::one_key`).
+    /// So keys can be compared, hashed, sorted and kept in place of trees; their order means nothing more.
     ///
-    /// Makes no tree and counts nothing; the only refusal is want of memory.
+    /// Makes no tree and counts nothing; the only error is lack of memory.
     ///
-    /// Writes each node of the tree once, and its number where it stands again: O(n log n) in the nodes and
-    /// boundaries of the tree, and linear in their texts and versions. No recursion, however deep it is.
+    /// Writes each node of the tree once, and its number where it occurs again: O(n log n) in the nodes and
+    /// endpoints of the tree, and linear in their texts and versions. No recursion, however deep it is.
     fn key(self, alloc: Global, interner: &Interner) -> Result<Vec<u8>, AllocError>
         requires { IsTree interner.now.nodes (tree self) }
         ensures key { IfOk result (λ key.

@@ -1,5 +1,5 @@
-//! Keys of what markers mean (PEP 508, "Environment Markers"): bytes that are the same exactly where two
-//! marker trees hold under the same valuations, of whatever interners they are.
+//! Keys of the meanings of markers (PEP 508, "Environment Markers"): bytes that are the same exactly where
+//! two marker trees hold under the same valuations, of whatever interners they are.
 #![tactic(auto)]
 
 mod key;

@@ -1,4 +1,4 @@
-//! Numbers of trees that were written.
+//! Numbers of the trees that were written.
 
 ghost use Rattle.std.specs.Prelude.{◌≡◌, [], ◌∷◌, ◌++◌, OnOk, None};
 ghost use Rattle.pep508_marker_key.specs.Numbering.{AreNumbers, number_in};
@@ -15,7 +15,7 @@ pub(crate) struct Numbers {
 }
 
 impl Numbers {
-    /// No tree has a number.
+    /// Returns numbers of no tree.
     pub fn new(alloc: Global) -> Numbers
         ensures none { result.trees.items ≡ [] }
         ensures numbers { AreNumbers result.trees.items result.places }
@@ -26,6 +26,7 @@ impl Numbers {
         }
     }
 
+    /// Returns the number of a tree, if it has one.
     pub fn number_of(&self, tree: MarkerTree) -> Option<u64>
         requires { AreNumbers self.now.trees.items self.now.places }
         ensures { result ≡ number_in 0 None self.now.trees.items (tree.place, tree.negated) }

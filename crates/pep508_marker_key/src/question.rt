@@ -1,4 +1,4 @@
-//! The bytes of questions.
+//! The bytes of a node's questions.
 
 ghost use Rattle.std.specs.Prelude.{◌≡◌, [], ◌∷◌, ◌++◌, OnOk};
 ghost use Rattle.pep440_key.specs.Key.{component_bytes, version_bytes};
@@ -13,7 +13,7 @@ use pep508_marker::MarkerValueString;
 use std::alloc::{AllocError, Global};
 use version_ranges::Boundary;
 
-/// In front of a question.
+/// The byte before a question.
 const QUESTION: u8 = 2;
 
 fn version_rank(variable: VersionVariable) -> u8
@@ -25,7 +25,7 @@ fn version_rank(variable: VersionVariable) -> u8
     }
 }
 
-/// Adds the place of a key among the variables.
+/// Appends the rank of a key among the variables.
 fn push_rank(key: &mut Vec<u8>, rank: u8) -> Result<(), AllocError>
     ensures { OnOk result (key.new.items ≡ key.old.items ++ component_bytes (rank ∷ [])) }
 {
@@ -75,7 +75,7 @@ fn push_text_boundary(key: &mut Vec<u8>, boundary: &Boundary<MarkerText>) -> Res
     }
 }
 
-/// Adds the question whether the version of a key lies below a boundary.
+/// Appends the question whether the version of a key is below an endpoint.
 #[tactic(auto, unfolding(crate::specs::Key::question_bytes))]
 pub(crate) fn push_version_question(
     alloc: Global,
@@ -93,7 +93,7 @@ pub(crate) fn push_version_question(
     key.extend_from_slice(&[0, 0])
 }
 
-/// Adds the question whether the text of a key lies below a boundary.
+/// Appends the question whether the text of a key is below an endpoint.
 #[tactic(auto, unfolding(crate::specs::Key::question_bytes))]
 pub(crate) fn push_text_question(
     key: &mut Vec<u8>,
@@ -111,7 +111,7 @@ pub(crate) fn push_text_question(
     Ok(())
 }
 
-/// Adds the question whether a flag is set.
+/// Appends the question whether a flag is set.
 #[tactic(auto, unfolding(crate::specs::Key::question_bytes))]
 pub(crate) fn push_flag_question(key: &mut Vec<u8>, flag: &Flag) -> Result<(), AllocError>
     ensures { OnOk result (key.new.items ≡ key.old.items ++ 2 ∷ question_bytes (IsSet flag.now)) }

@@ -1,5 +1,11 @@
-//! A walk over a tree that writes its key. What is left to write stands on a list, the next at its end, so
+//! A walk over a tree that writes its key. The steps left to do are kept in a list, the next at its end, so
 //! that a deep tree takes memory and no stack.
+//!
+//! The definition is a recursion over the diagram in which `is_alike` finds what was written before; the
+//! code is a loop over nodes with a map from places to numbers. A diagram gets its number when all of it is
+//! written, since two keys can be compared from the front only by parts that are whole. A tree and its
+//! negation have numbers of their own: sharing one would halve some keys, and put a sign into each step of
+//! the law.
 
 ghost use Rattle.std.specs.Prelude.{◌≡◌, ◌<◌, ◌++◌, length, IfOk, OnOk};
 ghost use Rattle.std.proofs.Common.{drop};
@@ -16,23 +22,23 @@ use pep508_diagram::Branch;
 use pep508_tree::{Interner, MarkerTree, TreeNode};
 use std::alloc::{AllocError, Global};
 
-/// In front of the number of a tree that was written before.
+/// The byte before the number of a tree that was written before.
 const AGAIN: u8 = 3;
 
-/// What is left to write.
+/// A step left to do.
 #[derive(Clone, Copy)]
 pub(crate) enum Step {
-    /// A tree.
+    /// Writes a tree.
     Enter(MarkerTree),
-    /// The questions of a tree's node from an index on: the tree, the child below the boundary at the index,
-    /// and the index.
+    /// Writes the questions of a tree's node from an index on: the tree, the child below the endpoint at
+    /// the index, and the index.
     Branch(MarkerTree, MarkerTree, usize),
-    /// Nothing, but a tree that was written gets its number.
+    /// Writes nothing, but gives a tree that was written its number.
     Close(MarkerTree),
 }
 
-/// Puts what stands on both sides of a boundary among the steps, that below it as the next one. With what
-/// stands above it go the node's later boundaries, where there are some.
+/// Pushes the steps for both sides of an endpoint, the side below it as the next one. The side above it
+/// includes the node's later endpoints, where there are some.
 fn push_sides<T>(
     steps: &mut Vec<Step>,
     tree: MarkerTree,
@@ -62,7 +68,7 @@ fn push_sides<T>(
     }
 }
 
-/// Writes the question of a tree's node at an index, below whose boundary stands `low`.
+/// Writes the question of a tree's node at an index; `low` is the child below the endpoint there.
 fn push_branch(
     alloc: Global,
     interner: &Interner,
@@ -98,7 +104,7 @@ fn push_branch(
     }
 }
 
-/// The first child of a tree's node, where it has one.
+/// Returns the first child of a tree's node, where it has one.
 fn first_child(interner: &Interner, tree: MarkerTree) -> Option<MarkerTree>
     requires { IsTree interner.now.nodes tree }
     ensures { result ≡ first_of (root_of interner.now.nodes tree) }
@@ -111,7 +117,7 @@ fn first_child(interner: &Interner, tree: MarkerTree) -> Option<MarkerTree>
     }
 }
 
-/// Writes the number of a tree that was written before, and else begins with its node.
+/// Writes the number of a tree that was written before, or else begins with its node.
 fn push_tree(
     alloc: Global,
     interner: &Interner,
@@ -164,7 +170,7 @@ fn make_step(
     }
 }
 
-/// The key of what a tree means.
+/// Returns the key of a tree's meaning.
 pub(crate) fn key_of_tree(
     alloc: Global,
     interner: &Interner,

@@ -70,10 +70,10 @@ module _ {T : Type 0} (word literal : T → ℕ) where
         literals = literals_of literal clause;
       }
 
-  -- whether another clause can spare a term of a clause, as far as bits tell
+  -- whether another clause can make a term of a clause needless, as far as bits show
   abbrev pub is_near : List T → List T → Bool
   is_near clause other = are_near (bits_of clause) (bits_of other)
 
-  -- whether another clause can cover a clause, as far as bits tell
+  -- whether another clause can cover a clause, as far as bits show
   abbrev pub may_cover : List T → List T → Bool
   may_cover clause other = may_stand_in (bits_of clause) (bits_of other)

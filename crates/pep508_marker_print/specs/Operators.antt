@@ -1,4 +1,4 @@
--- Which operators say the opposite of each other.
+-- Which operators are opposites of each other.
 use Rattle.std.specs.Prelude.{◌==◌, Bool, false}
 use Rattle.std.specs.Option.{option_map_or}
 use Rattle.pep440_operator.specs.Operators.{negated}

@@ -1,5 +1,5 @@
--- Which clauses can spare a term of a clause: those near it, whose words are the clause's but for one,
--- that of the term's negation.
+-- Which clauses can make a term of a clause needless: those near it, whose words are the clause's but for
+-- one, that of the term's negation.
 use Rattle.std.specs.Prelude.{ℕ, ◌==◌, ◌&&◌, Bool, true, false, cond, List, [], ◌∷◌, fold}
 use Rattle.std.specs.BTreeMap.{is_at}
 use Rattle.std.specs.BTreeSet.{insert_key}
@@ -41,7 +41,7 @@ abbrev pub words_of : {T : Type 0} → (T → ℕ) → List T → List ℕ
 words_of literal terms = fold (λ words term. insert_key nat_cmp words (literal term)) [] terms
 
 module _ {T : Type 0} (literal : T → ℕ) (own : ℕ → Bool) where
-  -- the words of terms in front of others, beside those of the others
+  -- the words of terms before others, with those of the others
   abbrev pub strays_before : Strays → List T → Strays
   strays_before behind [] = behind
   strays_before behind (term ∷ later) =
@@ -62,12 +62,12 @@ module _ {T : Type 0} (literal : T → ℕ) (own : ℕ → Bool) where
   candidates_of word clause others = flat_map (candidate_of word clause) others
 
 module _ {T : Type 0} (same opposite : T → T → Bool) where
-  -- whether a candidate spares a term that stands with others, whose negation has a word
+  -- whether a candidate makes a term among others needless, whose negation has a word
   abbrev pub is_spared_by : T → List T → ℕ → Strays × List T → Bool
   is_spared_by term rest word candidate =
       are_at_most word candidate.0 && spares same opposite term rest candidate.1
 
-  -- whether a term that stands with others is needless beside candidates
+  -- whether a term among others is needless because of candidates
   abbrev pub is_needless_by : (T → ℕ) → List (Strays × List T) → T → List T → Bool
   is_needless_by negation candidates term rest =
       has_some rest && list_any (is_spared_by term rest (negation term)) candidates

@@ -14,7 +14,7 @@ clause_of terms = map expression_of terms
 abbrev pub lists_of : {T Y : Type 0} → List (Vec T Y) → List (List T)
 lists_of clauses = map (λ clause. clause.items) clauses
 
--- lent lists as lists
+-- borrowed lists as lists
 abbrev pub lent_lists : {T : Type 0} → List (Bor (List T)) → List (List T)
 lent_lists clauses = map (λ clause. clause.now) clauses
 

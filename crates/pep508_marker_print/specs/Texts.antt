@@ -1,4 +1,4 @@
--- Terms and clauses behind others.
+-- Terms and clauses after others.
 use Rattle.std.specs.Prelude.{ℕ, List, ◌++◌, codes, Vec}
 use Rattle.pep508_marker.specs.declared.expression.MarkerExpression.{MarkerExpression}
 use Rattle.pep508_marker.specs.Expression.{expression_of, expression_text}

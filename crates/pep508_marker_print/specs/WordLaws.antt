@@ -1,4 +1,4 @@
--- Terms of one value have one word, and a term's negation has the literal word that is told of it.
+-- Terms of one value have one word, and a term's negation has the literal word that is given for it.
 use Rattle.std.proofs.Common.{◌≡◌, ℕ, Bool, true, false, ◌==◌, List, Option, None, Some}
 use Rattle.std.proofs.Common.{ap, sym, ◌∙◌, true≢false}
 use Rattle.std.specs.Cmp.{unsigned_Decides}

@@ -1,5 +1,5 @@
--- Words of terms, and their bits. A term's word is one with that of each term which is the same, and of its
--- negations; its literal word is one with that of each term which is the same.
+-- Words of terms, and their bits. A term's word is equal for each equal term, and for its negations; its
+-- literal word is equal for each equal term.
 use Rattle.std.specs.Prelude.{ℕ, ◌+◌, ◌*◌, ◌/◌, ◌%◌, ◌^◌, List, fold}
 use Rattle.std.specs.Int.Bits.{bit_or}
 use Rattle.std.specs.Option.{option_map_or}
@@ -22,7 +22,7 @@ spread word = word * 11400714819323198485 % 2 ^ 64
 abbrev pub with_number : ℕ → ℕ → ℕ
 with_number word number = (spread word + number) % 2 ^ 64
 
--- the word of a text or of a list of numbers, behind a word
+-- the word of a text or of a list of numbers that continues a word
 abbrev pub word_behind : ℕ → List ℕ → ℕ
 word_behind word numbers = fold with_number word numbers
 

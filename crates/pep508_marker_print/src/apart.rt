@@ -1,4 +1,4 @@
-//! Clauses that no other clause can cover, told by the words by which clauses begin.
+//! Clauses that no other clause can cover, found by the hashes of their first terms.
 
 ghost use Rattle.std.specs.Prelude.{◌≡◌, false, IfOk, IfSome, OnOk};
 ghost use Rattle.std.specs.Option.{option_map_or};
@@ -10,7 +10,8 @@ use crate::term::Term;
 use std::alloc::{AllocError, Global};
 use std::collections::BTreeSet;
 
-/// The words by which more than one of some clauses begins; none are told where a clause has no terms.
+/// Returns the words (hashes of terms) by which more than one of some clauses begins; `None` where a clause
+/// has no terms.
 pub(crate) fn common_words<T: Term>(
     alloc: Global,
     clauses: &[Clause<T>],
@@ -43,7 +44,7 @@ fn add_word(
     Ok(())
 }
 
-/// Whether a clause has one term, of none of the common words.
+/// Returns whether a clause has a single term, whose word is not among the common ones.
 pub(crate) fn stands_apart<T: Term>(clause: &Clause<T>, common: &Option<BTreeSet<u64>>) -> bool
     ensures { result ≡ option_map_or (λ words. stands_apart T.literal (has words.keys) clause.now)
         common.now false }
@@ -54,7 +55,7 @@ pub(crate) fn stands_apart<T: Term>(clause: &Clause<T>, common: &Option<BTreeSet
     }
 }
 
-/// Whether there is one term, of none of these words.
+/// Returns whether there is a single term, whose word is not among these.
 fn is_alone<T: Term>(terms: &[T], words: &BTreeSet<u64>) -> bool
     ensures { result ≡ stands_apart T.literal (has words.now.keys) terms.now }
 {

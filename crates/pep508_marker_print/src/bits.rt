@@ -1,4 +1,4 @@
-//! Bits that tell of a clause's terms.
+//! Bits of hashes that summarize a clause's terms.
 
 ghost use Rattle.std.specs.Prelude.{◌≡◌, ◌≤◌, ◌<◌};
 ghost use Rattle.pep508_marker_print.specs.Words.{bit, value_bits};
@@ -8,7 +8,7 @@ ghost use Rattle.pep508_marker_print.specs.Near.{bits_of, have_values, are_near,
 
 use crate::term::{Term, spread};
 
-/// Two bits of each of some terms.
+/// Two sets of bits, with one bit of each term in either.
 #[derive(Clone, Copy)]
 struct Literals {
     first: u64,
@@ -29,7 +29,7 @@ impl Literals {
         literals
     }
 
-    /// These and the bits of a word.
+    /// Adds the bits of a word.
     fn with_word(self, word: u64) -> Literals
         ensures { result ≡ with_literal self word }
     {
@@ -40,14 +40,14 @@ impl Literals {
         }
     }
 
-    /// Whether all others are among these.
+    /// Returns whether these include all bits of the other.
     fn have(self, other: Literals) -> bool
         ensures { result ≡ have_literals self other }
     {
         is_within(self.first, other.first) && is_within(self.second, other.second)
     }
 
-    /// Whether all others are among these, but for one of each kind at most.
+    /// Returns whether these include all bits of the other, but for at most one in each set.
     fn nearly_have(self, other: Literals) -> bool
         ensures { result ≡ nearly_have_literals self other }
     {
@@ -55,7 +55,7 @@ impl Literals {
     }
 }
 
-/// The bits of the values of some terms, twice, and of the terms themselves.
+/// Bits of the values of some terms, in two sets, and of the terms themselves.
 #[derive(Clone, Copy)]
 pub(crate) struct Bits {
     values: u64,
@@ -74,21 +74,21 @@ impl Bits {
         }
     }
 
-    /// Whether all bits of others' values are among these.
+    /// Returns whether these include all bits of the other's values.
     fn have_values(self, other: Bits) -> bool
         ensures { result ≡ have_values self other }
     {
         is_within(self.values, other.values) && is_within(self.more_values, other.more_values)
     }
 
-    /// Whether all bits of others' values are among these, and nearly all of their terms.
+    /// Returns whether these include all bits of the other's values, and nearly all of its terms.
     pub(crate) fn are_near(self, other: Bits) -> bool
         ensures { result ≡ are_near self other }
     {
         self.have_values(other) && self.literals.nearly_have(other.literals)
     }
 
-    /// Whether all bits of others are among these.
+    /// Returns whether these include all bits of the other.
     pub(crate) fn may_stand_in(self, other: Bits) -> bool
         ensures { result ≡ may_stand_in self other }
     {
@@ -96,7 +96,7 @@ impl Bits {
     }
 }
 
-/// One of 64 bits, named by six bits of a word.
+/// Returns one of 64 bits, chosen by six bits of a word.
 #[tactic(auto, using(std::proofs::lemmas::Nat::one_shl))]
 fn bit(word: u64, from: u32) -> u64
     requires { from < 64 }
@@ -105,7 +105,7 @@ fn bit(word: u64, from: u32) -> u64
     1u64 << ((word >> from) % 64)
 }
 
-/// Four bits of a value.
+/// Returns four bits, chosen by a value's word.
 #[tactic(auto, unfolding(crate::specs::Words::value_bits))]
 fn value_bits(word: u64, from: u32) -> u64
     requires { from ≤ 40 }
@@ -115,7 +115,7 @@ fn value_bits(word: u64, from: u32) -> u64
     bit(word, from) | bit(word, from + 6) | bit(word, from + 12) | bit(word, from + 18)
 }
 
-/// The bits of the values of some terms.
+/// Returns the bits of the values of some terms.
 fn values<T: Term>(terms: &[T], from: u32) -> u64
     requires { from ≤ 40 }
     ensures { result ≡ joined (λ term. value_bits (T.word term) from) terms.now }
@@ -127,14 +127,14 @@ fn values<T: Term>(terms: &[T], from: u32) -> u64
     bits
 }
 
-/// Whether bits have all of others.
+/// Returns whether `own` has all bits of `other`.
 fn is_within(own: u64, other: u64) -> bool
     ensures { result ≡ is_within own other }
 {
     other | own == own
 }
 
-/// Whether bits have all of others, but for one at most.
+/// Returns whether `own` has all bits of `other`, but for at most one.
 fn is_within_but_one(own: u64, other: u64) -> bool
     ensures { result ≡ is_within_but_one own other }
 {

@@ -1,4 +1,4 @@
-//! Clauses that tell quickly whether they can matter to another one.
+//! Clauses with bits that quickly rule out that one matters to another.
 
 ghost use Rattle.std.specs.Prelude.{◌≡◌};
 ghost use Rattle.pep508_marker_print.specs.Near.{is_near, may_cover};
@@ -7,7 +7,7 @@ use crate::bits::Bits;
 use crate::term::Term;
 use std::marker::Model;
 
-/// A clause, seen as its terms, with their bits.
+/// A clause with the bits of its terms. Its model is the terms.
 #[derive(Drop)]
 pub(crate) struct Clause<T: Term> {
     terms: Vec<T>,
@@ -45,14 +45,14 @@ impl<T: Term> Clause<T> {
         self.terms
     }
 
-    /// Whether another clause can spare one of this clause's terms, as far as bits tell.
+    /// Returns whether another clause can make one of this clause's terms needless, as far as bits show.
     pub(crate) fn is_near(&self, other: &Clause<T>) -> bool
         ensures { result ≡ is_near T.word T.literal self.now other.now }
     {
         self.bits.are_near(other.bits)
     }
 
-    /// Whether another clause can cover this one, as far as bits tell.
+    /// Returns whether another clause can cover this one, as far as bits show.
     pub(crate) fn may_be_covered(&self, other: &Clause<T>) -> bool
         ensures { result ≡ may_cover T.word T.literal self.now other.now }
     {

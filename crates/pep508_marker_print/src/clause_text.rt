@@ -10,7 +10,7 @@ ghost use Rattle.pep508_marker_print.specs.Texts.{and_term, or_clause};
 use pep508_marker::MarkerExpression;
 use std::fmt;
 
-/// A term, and more with `and` before each.
+/// A printer of a term, and of more with `and` before each.
 #[derive(Clone, Copy)]
 struct Joined<'a> {
     first: &'a MarkerExpression,
@@ -31,7 +31,7 @@ impl fmt::Display for Joined<'_> {
     }
 }
 
-/// Terms with `and` between them.
+/// A printer of terms with `and` between them.
 #[derive(Clone, Copy)]
 struct Terms<'a> {
     terms: &'a [MarkerExpression],
@@ -49,7 +49,7 @@ impl fmt::Display for Terms<'_> {
     }
 }
 
-/// A clause beside others: in brackets where it has several terms.
+/// A printer of a clause among others: in brackets where it has several terms.
 #[derive(Clone, Copy)]
 struct Bracketed<'a> {
     terms: &'a [MarkerExpression],
@@ -67,7 +67,7 @@ impl fmt::Display for Bracketed<'_> {
     }
 }
 
-/// A clause, and more with `or` before each.
+/// A printer of a clause, and of more with `or` before each.
 #[derive(Clone, Copy)]
 struct Alternatives<'a> {
     first: &'a [MarkerExpression],
@@ -89,7 +89,7 @@ impl fmt::Display for Alternatives<'_> {
     }
 }
 
-/// Clauses with `or` between them.
+/// A printer of clauses with `or` between them.
 #[derive(Clone, Copy)]
 pub(crate) struct Clauses<'a> {
     pub clauses: &'a [Vec<MarkerExpression>],

@@ -1,5 +1,5 @@
-//! Clauses of comparisons (PEP 508, "Environment Markers"): how they are simplified, and their text.
-//! Contracts see a comparison as an `ExpressionRecord`.
+//! Clauses of comparisons (PEP 508, "Environment Markers"): their simplification, and their text. The model
+//! of a comparison in contracts is an `ExpressionRecord`.
 #![tactic(auto)]
 
 mod apart;

@@ -1,4 +1,10 @@
-//! Clauses without needless terms, and without needless clauses.
+//! Removing needless terms of clauses, and needless clauses.
+//!
+//! A clause of one term is compared with others only where another clause begins by its word, since what
+//! covers it has no other term: `n` versions in a list are as many such clauses, none of which is compared
+//! with another. Equal terms of one clause both stay: a version's local part is dropped after the tests, so
+//! `implementation_version not in '1+x 1+y'` prints `!= '1'` twice. Of two equal clauses the first is
+//! dropped.
 
 ghost use Rattle.std.specs.Prelude.{◌≡◌, [], ◌∷◌, ◌++◌, ◌&&◌, ◌||◌, not, reverse, IfOk, IfSome, OnOk};
 ghost use Rattle.std.specs.List.{list_any, list_all};
@@ -16,7 +22,7 @@ use crate::term::Term;
 use std::alloc::{AllocError, Global};
 use std::collections::BTreeSet;
 
-/// Whether a term stands in a clause.
+/// Returns whether a clause contains a term.
 fn stands_in<T: Term>(clause: &[T], term: &T) -> bool
     ensures { result ≡ stands_in T.same T.opposite clause.now term.now }
 {
@@ -28,7 +34,7 @@ fn stands_in<T: Term>(clause: &[T], term: &T) -> bool
     false
 }
 
-/// Whether a term stands in front or behind.
+/// Returns whether a term is among those before or after.
 #[tactic(auto, using(crate::proofs::Sifting::stands_beside))]
 fn stands_beside<T: Term>(front: &[T], behind: &[T], term: &T) -> bool
     ensures { result ≡ stands_in T.same T.opposite (front.now ++ behind.now) term.now }
@@ -36,7 +42,7 @@ fn stands_beside<T: Term>(front: &[T], behind: &[T], term: &T) -> bool
     stands_in(front, term) || stands_in(behind, term)
 }
 
-/// Whether a term is another one than a given term, and is its negation or stands beside it.
+/// Returns whether a term differs from a given term, and is its negation or among the terms around it.
 fn is_spared<T: Term>(term: &T, front: &[T], behind: &[T], other: &T) -> bool
     ensures { result ≡ (not (T.same term.now other.now)
         && (T.opposite term.now other.now
@@ -45,7 +51,8 @@ fn is_spared<T: Term>(term: &T, front: &[T], behind: &[T], other: &T) -> bool
     !term.is_same(other) && (term.is_opposite(other) || stands_beside(front, behind, other))
 }
 
-/// Whether a clause has the term nowhere, and consists of negations of it and of terms beside it.
+/// Returns whether a clause makes a term needless: it doesn't contain the term, and consists of negations
+/// of it and of terms around it.
 fn spares<T: Term>(term: &T, front: &[T], behind: &[T], clause: &[T]) -> bool
     ensures { result ≡ spares T.same T.opposite term.now (front.now ++ behind.now) clause.now }
 {
@@ -57,7 +64,8 @@ fn spares<T: Term>(term: &T, front: &[T], behind: &[T], clause: &[T]) -> bool
     true
 }
 
-/// Whether a candidate spares a term that stands among others, whose negation has a word.
+/// Returns whether a candidate makes a term among others needless; `negation` is the word of the term's
+/// negation.
 fn spares_by_words<T: Term>(
     term: &T,
     front: &[T],
@@ -71,7 +79,7 @@ fn spares_by_words<T: Term>(
     candidate.may_spare(negation) && spares(term, front, behind, candidate.terms())
 }
 
-/// Whether one of some candidates spares a term that stands among others.
+/// Returns whether one of some candidates makes a term among others needless.
 fn one_spares<T: Term>(term: &T, front: &[T], behind: &[T], candidates: &[Candidate<T>]) -> bool
     ensures { result ≡ list_any
         (is_spared_by T.same T.opposite term.now (front.now ++ behind.now) (T.negation term.now))
@@ -86,7 +94,7 @@ fn one_spares<T: Term>(term: &T, front: &[T], behind: &[T], candidates: &[Candid
     false
 }
 
-/// Whether some terms stand in front or behind.
+/// Returns whether there are terms before or after.
 #[tactic(auto, using(crate::proofs::Sifting::some_beside))]
 fn have_some<T: Term>(front: &[T], behind: &[T]) -> bool
     ensures { result ≡ has_some (front.now ++ behind.now) }
@@ -94,7 +102,7 @@ fn have_some<T: Term>(front: &[T], behind: &[T]) -> bool
     !front.is_empty() || !behind.is_empty()
 }
 
-/// Whether a term that stands among others is needless beside candidates.
+/// Returns whether a term among others is needless because of the candidates.
 fn is_needless<T: Term>(term: &T, front: &[T], behind: &[T], candidates: &[Candidate<T>]) -> bool
     ensures { result
         ≡ is_needless_by T.same T.opposite T.negation candidates.now term.now (front.now ++ behind.now) }
@@ -102,7 +110,7 @@ fn is_needless<T: Term>(term: &T, front: &[T], behind: &[T], candidates: &[Candi
     have_some(front, behind) && one_spares(term, front, behind, candidates)
 }
 
-/// Some terms without those that are needless beside candidates.
+/// Returns the terms without those that the candidates make needless.
 fn shorten<T: Term>(
     alloc: Global,
     terms: Vec<T>,
@@ -122,7 +130,7 @@ fn shorten<T: Term>(
     Ok(kept)
 }
 
-/// Adds those of some clauses that can spare a term of a clause, whose words are given.
+/// Adds those of some clauses that can make a term of a clause needless; `words` are the clause's.
 fn add_candidates<'a, T: Term>(
     candidates: &mut Vec<Candidate<'a, T>>,
     words: &BTreeSet<u64>,
@@ -140,7 +148,7 @@ fn add_candidates<'a, T: Term>(
     Ok(())
 }
 
-/// The clauses that can spare a term of a clause, whose words are given.
+/// Returns the clauses that can make a term of a clause needless; `words` are the clause's.
 #[tactic(auto, using(crate::proofs::Near::candidates_beside))]
 fn candidates<'a, T: Term>(
     alloc: Global,
@@ -158,7 +166,7 @@ fn candidates<'a, T: Term>(
     Ok(candidates)
 }
 
-/// A clause without what is needless beside other clauses.
+/// Returns a clause without the terms that other clauses make needless.
 fn shortened_clause<T: Term>(
     alloc: Global,
     clause: Clause<T>,
@@ -177,7 +185,7 @@ fn shortened_clause<T: Term>(
     Ok(Clause::new(short))
 }
 
-/// The clauses, one after another, without their needless terms.
+/// Returns the clauses without their needless terms, which are removed clause by clause.
 fn shortened<T: Term>(alloc: Global, clauses: Vec<Clause<T>>) -> Result<Vec<Clause<T>>, AllocError>
     ensures { IfOk result (λ short.
         short.items ≡ shortened_behind T.same T.opposite [] clauses.items) }
@@ -192,7 +200,7 @@ fn shortened<T: Term>(alloc: Global, clauses: Vec<Clause<T>>) -> Result<Vec<Clau
     Ok(done)
 }
 
-/// Whether all of some terms stand in a clause.
+/// Returns whether a clause contains all of some terms.
 fn stand_in<T: Term>(clause: &[T], terms: &[T]) -> bool
     ensures { result ≡ list_all (stands_in T.same T.opposite clause.now) terms.now }
 {
@@ -204,14 +212,14 @@ fn stand_in<T: Term>(clause: &[T], terms: &[T]) -> bool
     true
 }
 
-/// Whether all terms of another clause stand in a clause.
+/// Returns whether a clause contains all terms of another one.
 fn covers<T: Term>(clause: &Clause<T>, other: &Clause<T>) -> bool
     ensures { result ≡ list_all (stands_in T.same T.opposite clause.now) other.now }
 {
     clause.may_be_covered(other) && stand_in(clause.terms(), other.terms())
 }
 
-/// Whether all terms of some other clause stand in a clause.
+/// Returns whether a clause contains all terms of some other clause.
 fn is_covered<T: Term>(clause: &Clause<T>, others: &[Clause<T>]) -> bool
     ensures { result ≡ is_covered T.same T.opposite clause.now others.now }
 {
@@ -223,7 +231,7 @@ fn is_covered<T: Term>(clause: &Clause<T>, others: &[Clause<T>]) -> bool
     false
 }
 
-/// Whether one of the clauses in front and behind covers a clause.
+/// Returns whether a clause contains all terms of one of the clauses before and after it.
 #[tactic(auto, using(crate::proofs::Sifting::covered_beside))]
 fn other_covers<T: Term>(clause: &Clause<T>, kept: &[Clause<T>], later: &[Clause<T>]) -> bool
     ensures { result ≡ is_covered T.same T.opposite clause.now (kept.now ++ later.now) }
@@ -231,7 +239,8 @@ fn other_covers<T: Term>(clause: &Clause<T>, kept: &[Clause<T>], later: &[Clause
     is_covered(clause, kept) || is_covered(clause, later)
 }
 
-/// The same, where it is known by which words more than one of all these clauses begins.
+/// Returns whether a clause contains all terms of one of the clauses before and after it, where `common`
+/// are the words by which more than one of all these clauses begins.
 fn is_covered_beside<T: Term>(
     clause: &Clause<T>,
     kept: &[Clause<T>],
@@ -245,7 +254,7 @@ fn is_covered_beside<T: Term>(
     !stands_apart(clause, common) && other_covers(clause, kept, later)
 }
 
-/// The clauses without those that others cover.
+/// Returns the clauses without those that others cover.
 fn uncovered<T: Term>(alloc: Global, clauses: Vec<Clause<T>>) -> Result<Vec<Clause<T>>, AllocError>
     ensures { IfOk result (λ kept.
         kept.items ≡ sifted (is_covered T.same T.opposite) [] clauses.items) }
@@ -262,7 +271,7 @@ fn uncovered<T: Term>(alloc: Global, clauses: Vec<Clause<T>>) -> Result<Vec<Clau
     Ok(kept)
 }
 
-/// Each list of terms as a clause.
+/// Returns each list of terms as a clause.
 fn as_clauses<T: Term>(alloc: Global, lists: Vec<Vec<T>>) -> Result<Vec<Clause<T>>, AllocError>
     ensures { IfOk result (λ clauses. clauses.items ≡ lists_of lists.items) }
 {
@@ -273,7 +282,7 @@ fn as_clauses<T: Term>(alloc: Global, lists: Vec<Vec<T>>) -> Result<Vec<Clause<T
     Ok(clauses)
 }
 
-/// Each clause as a list of its terms.
+/// Returns each clause as a list of its terms.
 fn as_lists<T: Term>(alloc: Global, clauses: Vec<Clause<T>>) -> Result<Vec<Vec<T>>, AllocError>
     ensures { IfOk result (λ lists. lists_of lists.items ≡ clauses.items) }
 {
@@ -284,14 +293,14 @@ fn as_lists<T: Term>(alloc: Global, clauses: Vec<Clause<T>>) -> Result<Vec<Vec<T
     Ok(lists)
 }
 
-/// The clauses without their needless terms, and then without those that others cover.
+/// Returns the clauses without their needless terms, and then without those that others cover.
 ///
-/// For a clause of several terms it looks at four numbers of each other one at most. Where the bits of
-/// its values are all the clause's own, and those of its terms but for one of each kind, it looks for the
-/// words of its terms among the clause's. The others of which at most one word isn't there are kept: each
-/// term of the clause looks at that word of each, and where it may be spared, at the terms, up to the
-/// first that decides. Then it looks at four numbers of each other one again, and at the terms where all
-/// bits are the clause's; but not for a clause of one term by whose word no other one begins.
+/// For a clause of several terms it looks at four numbers of each other one at most. Where the bits of its
+/// values are all the clause's own, and those of its terms but for one of each kind, it looks for the words
+/// of its terms among the clause's. The others of which at most one word isn't there are kept: each term of
+/// the clause looks at that word of each, and where it may be needless, at the terms, up to the first that
+/// decides. Then it looks at four numbers of each other one again, and at the terms where all bits are the
+/// clause's; but not for a clause of one term by whose word no other one begins.
 pub(crate) fn simplified<T: Term>(
     alloc: Global,
     clauses: Vec<Vec<T>>,

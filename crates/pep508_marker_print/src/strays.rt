@@ -1,4 +1,4 @@
-//! Clauses that can spare a term of a clause, told by the words that the clause has not.
+//! Clauses that can make a term of a clause needless, found by their words that the clause lacks.
 
 ghost use Rattle.std.specs.Prelude.{◌≡◌, ◌++◌, IfOk, OnOk};
 ghost use Rattle.pep508_marker_print.specs.Sparing.{with_stray, with_word, are_several, are_at_most};
@@ -10,7 +10,7 @@ use std::alloc::{AllocError, Global};
 use std::collections::BTreeSet;
 use std::marker::Model;
 
-/// Words of a clause that another one has not.
+/// The words of a clause that another one lacks.
 #[derive(Clone, Copy)]
 pub(crate) enum Strays {
     None,
@@ -19,7 +19,7 @@ pub(crate) enum Strays {
 }
 
 impl Strays {
-    /// These and a word.
+    /// Adds a word.
     fn with_stray(self, word: u64) -> Strays
         ensures { result ≡ with_stray word self }
     {
@@ -36,7 +36,7 @@ impl Strays {
         }
     }
 
-    /// These, and a word where it isn't among given ones.
+    /// Adds a word unless it is among given ones.
     fn with_word(self, words: &BTreeSet<u64>, word: u64) -> Strays
         ensures { result ≡ with_word (has words.now.keys word) word self }
     {
@@ -56,7 +56,7 @@ impl Strays {
         }
     }
 
-    /// Whether there are none but a given word.
+    /// Returns whether there are none but a given word.
     fn are_at_most(self, word: u64) -> bool
         ensures { result ≡ are_at_most word self }
     {
@@ -68,7 +68,7 @@ impl Strays {
     }
 }
 
-/// The words of some terms, each once.
+/// Returns the words of some terms, each once.
 pub(crate) fn words<T: Term>(alloc: Global, terms: &[T]) -> Result<BTreeSet<u64>, AllocError>
     ensures { IfOk result (λ words. words.keys ≡ words_of T.literal terms.now) }
 {
@@ -79,8 +79,8 @@ pub(crate) fn words<T: Term>(alloc: Global, terms: &[T]) -> Result<BTreeSet<u64>
     Ok(words)
 }
 
-/// The words of some terms that aren't among given ones. It looks at the last terms first, where clauses that
-/// begin alike differ, up to the second such word.
+/// Returns the words of some terms that aren't among given ones. It looks at the last terms first, where
+/// clauses that begin alike differ, up to the second such word.
 #[tactic(auto, using(crate::proofs::Straying::stray_rules))]
 fn strays_of<T: Term>(words: &BTreeSet<u64>, terms: &[T]) -> Strays
     ensures { result ≡ strays_of T.literal (has words.now.keys) terms.now }
@@ -101,7 +101,7 @@ fn strays_of<T: Term>(words: &BTreeSet<u64>, terms: &[T]) -> Strays
     }
 }
 
-/// A clause that may spare terms of another one, with the words that this one has not.
+/// A clause that may make terms of another one needless, with its words that the other one lacks.
 #[derive(Drop)]
 pub(crate) struct Candidate<'a, T: Term> {
     clause: &'a Clause<T>,
@@ -124,7 +124,7 @@ impl<'a, T: Term> Candidate<'a, T> {
         self.clause.terms()
     }
 
-    /// Whether the clause may spare terms whose negations have this word.
+    /// Returns whether the clause may make terms needless whose negations have this word.
     pub(crate) fn may_spare(&self, negation: u64) -> bool
         ensures { result ≡ are_at_most negation self.now.0 }
     {
@@ -132,7 +132,7 @@ impl<'a, T: Term> Candidate<'a, T> {
     }
 }
 
-/// Adds a clause to the candidates, where no more than one of its words isn't among given ones.
+/// Adds a clause to the candidates, where at most one of its words isn't among given ones.
 pub(crate) fn add_candidate<'a, T: Term>(
     candidates: &mut Vec<Candidate<'a, T>>,
     words: &BTreeSet<u64>,

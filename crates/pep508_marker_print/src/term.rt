@@ -1,4 +1,7 @@
-//! Terms of clauses, and which of them say the same or the opposite.
+//! Terms of clauses, and which of them are equal or opposite.
+//!
+//! Terms are the same by the equality of versions and the number of release numbers, by which a star
+//! selects. No clause has a list of versions, so terms that are lists are the same as nothing.
 
 ghost use Rattle.std.specs.Prelude.{◌≡◌};
 ghost use Rattle.pep440_specifier.specs.SpecifierOrder.{operator_rank};
@@ -21,7 +24,7 @@ use pep508_marker::{
     MarkerValueVersion,
 };
 
-/// What stands in a clause.
+/// A term of a clause.
 pub(crate) trait Term: Drop {
     ghost use Rattle.std.specs.Prelude.{◌≡◌, ℕ, Bool, true};
 
@@ -31,17 +34,17 @@ pub(crate) trait Term: Drop {
     /// Whether one is the other's negation.
     ghost opposite: { Self → Self → Bool };
 
-    /// A number that terms have in common where they are the same, or negations of each other.
+    /// A number that is equal for equal terms, and for terms that are negations of each other.
     ghost word: { Self → ℕ };
 
     ghost word_of_same: { (a b : Self) → same a b ≡ true → word a ≡ word b };
 
     ghost word_of_opposite: { (a b : Self) → opposite a b ≡ true → word a ≡ word b };
 
-    /// A number that terms have in common where they are the same.
+    /// A number that is equal for equal terms.
     ghost literal: { Self → ℕ };
 
-    /// That of the term's negations.
+    /// The number of the term's negations.
     ghost negation: { Self → ℕ };
 
     ghost literal_of_same: { (a b : Self) → same a b ≡ true → literal a ≡ literal b };
@@ -54,35 +57,35 @@ pub(crate) trait Term: Drop {
     fn is_opposite(&self, other: &Self) -> bool
         ensures { result ≡ opposite self.now other.now };
 
-    /// A number that terms have in common where they are the same, or negations of each other. Others may
-    /// have it too.
+    /// Returns a number that is equal for equal terms, and for terms that are negations of each other.
+    /// Other terms may have it too.
     fn word(&self) -> u64
         ensures { result ≡ word self.now };
 
-    /// A number that terms have in common where they are the same. Others may have it too.
+    /// Returns a number that is equal for equal terms. Other terms may have it too.
     fn literal(&self) -> u64
         ensures { result ≡ literal self.now };
 
-    /// That of the term's negations.
+    /// Returns the `literal` of the term's negations.
     fn negation(&self) -> u64
         ensures { result ≡ negation self.now };
 }
 
-/// A word of which each bit counts in the highest ones.
+/// Returns a word in whose highest bits every bit of the given one counts.
 pub(crate) fn spread(word: u64) -> u64
     ensures { result ≡ spread word }
 {
     word.wrapping_mul(11400714819323198485)
 }
 
-/// A word with a number more.
+/// Returns the word that continues this one by a number.
 fn with_number(word: u64, number: u64) -> u64
     ensures { result ≡ with_number word number }
 {
     spread(word).wrapping_add(number)
 }
 
-/// The word of a text behind a word.
+/// Returns the word that continues this one by a text.
 fn text_word(key: u64, text: &str) -> u64
     ensures { result ≡ word_behind key text.now }
 {
@@ -93,7 +96,7 @@ fn text_word(key: u64, text: &str) -> u64
     word
 }
 
-/// The word of numbers behind a word.
+/// Returns the word that continues this one by numbers.
 fn numbers_word(key: u64, numbers: &[u64]) -> u64
     ensures { result ≡ word_behind key numbers.now }
 {
@@ -143,7 +146,7 @@ fn extra_operator_rank(operator: ExtraOperator) -> u8
     operator as u8
 }
 
-/// Whether two versions are equal and have as many release numbers.
+/// Returns whether two versions are equal and have equally many release numbers.
 fn same_version(version: &Version, other: &Version) -> bool
     ensures { result ≡ same_version version.now other.now }
 {
@@ -156,7 +159,7 @@ fn same_text(text: &str, other: &str) -> bool
     text.cmp(other).is_eq()
 }
 
-/// Whether two extras are the same: two names, or two texts that are none.
+/// Returns whether two extras are the same: two names, or two texts that are not names.
 pub fn is_same_extra(extra: &MarkerValueExtra, other: &MarkerValueExtra) -> bool
     ensures { result ≡ same_extra (extra_of extra.now) (extra_of other.now) }
 {
@@ -195,7 +198,7 @@ fn are_opposite_extras(operator: ExtraOperator, other: ExtraOperator) -> bool
     extra_operator_rank(operator.negate()) == extra_operator_rank(other)
 }
 
-/// A word with the negation of an operator; 0 where it has none.
+/// Returns the word continued by the negation of an operator; 0 where it has none.
 fn negated_word(word: u64, operator: Operator) -> u64
     ensures { result ≡ negated_word word operator }
 {

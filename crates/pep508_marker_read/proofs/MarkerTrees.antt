@@ -1,11 +1,10 @@
--- The tree of a marker.
-use Rattle.std.proofs.Common.{◌≡◌, ℕ, ◌==◌, if◌then◌else◌, List, [], length, Ok, Err, ap, sym, subst, ◌∙◌}
-use Rattle.std.specs.Str.{skip_leading_whitespace}
+-- What a refused chain says of a refused marker.
+use Rattle.std.proofs.Common.{◌≡◌, ℕ, List, ap, sym, subst}
 use Rattle.pep508_error.specs.declared.refusal.RefusalKind.{RefusalKind}
-use Rattle.pep508_marker_comparison.specs.SideReading.{Malformed, if_end}
+use Rattle.pep508_marker_comparison.specs.SideReading.{if_end}
 use Rattle.pep508_error.specs.Steps.{◌>>=◌}
 use Rattle.pep508_marker_comparison.specs.Outcome.{Tells}
-use Rattle.pep508_marker_read.specs.MarkerReading.{Marker, Or, marker_at}
+use Rattle.pep508_marker_read.specs.MarkerReading.{Or, marker_at}
 use Rattle.pep508_marker_read.specs.TreeReading.{chain_at}
 use Rattle.pep508_marker_read.proofs.Chains.{tells_on, formula_is}
 
@@ -16,9 +15,3 @@ marker_is cs = ap (λ r. r >>= if_end) (formula_is 256 cs)
 pub marker_refused : (kind : RefusalKind) (cs : List ℕ) → Tells kind (chain_at Or 256 cs) → Tells kind (marker_at cs)
 marker_refused kind cs tells =
     subst (Tells kind) (sym (marker_is cs)) (tells_on kind (chain_at Or 256 cs) if_end tells)
-
-pub ended : (cs : List ℕ) (marker : Marker) (rest end : List ℕ) → chain_at Or 256 cs ≡ Ok (marker, rest)
-    → end ≡ skip_leading_whitespace rest → end ≡ [] → marker_at cs ≡ Ok marker
-ended cs marker rest end read same h =
-    marker_is cs ∙ ap (λ r. r >>= if_end) read
-    ∙ ap (λ (ds : List ℕ). if length ds == 0 then Ok marker else Err Malformed) (sym same ∙ h)

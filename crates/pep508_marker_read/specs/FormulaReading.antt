@@ -1,4 +1,4 @@
--- What the readers of a marker's formula return, by what there is to read.
+-- The results of the readers of a marker's formula, for each reading of its text.
 use Rattle.std.specs.Prelude.{◌≡◌, List, Some, None, Result, Ok, Err}
 use Rattle.pep508_marker.specs.Warnings.{Warning}
 use Rattle.pep508_marker.specs.Expression.{ExpressionRecord}
@@ -13,7 +13,7 @@ use Rattle.pep508_marker_comparison.specs.Outcome.{Tells, IsWarned}
 use Rattle.pep508_marker_read.specs.Formula.{Formula}
 use Rattle.pep508_marker_read.specs.MarkerReading.{Marker}
 
--- what was returned is the reading: its very formula, and the place behind it; or a refusal for its reason
+-- the result is the reading: its very formula, and the place after it; or a refusal for its reason
 abbrev pub ReadsFormula : {R : Type 0} → (R → Warning → R → Type 0) → R → R
     → Result (List (Part ExpressionRecord) × Cursor) Refusal → Reading Marker → Type 0
 ReadsFormula takes old new (Ok found) reading =
@@ -21,13 +21,13 @@ ReadsFormula takes old new (Ok found) reading =
     × IsWarned takes old new marker.warned
 ReadsFormula takes old new (Err refusal) reading = Tells refusal.kind reading
 
--- the formula is the next piece of what was said
+-- the formula is the next piece
 abbrev pub IsNextPiece : FormulaBuilder → FormulaBuilder → Formula ExpressionRecord → Type 0
 IsNextPiece before after formula =
     (begun : building.Begun) (waiting : List building.Begun)
     → building.Stands before None begun waiting → building.Stands after (Some formula) begun waiting
 
--- a piece was read, and is the next of what was said
+-- a piece was read, and is the next piece
 abbrev pub ReadsPiece : {R : Type 0} → (R → Warning → R → Type 0) → R → R → FormulaBuilder → FormulaBuilder
     → Result Cursor Refusal → Reading Marker → Type 0
 ReadsPiece takes old new before after (Ok later) reading =

@@ -18,7 +18,7 @@ truth_of nodes chain v = chain_truth (connective chain.word) (map (λ t. holds n
 abbrev pub truths_of : List NodeRecord → List TreeChain → Valuation → List (Option Bool)
 truths_of nodes chains v = map (λ chain. truth_of nodes chain v) chains
 
--- the last chain is taken off; one without trees where there is none
+-- the last chain is removed; one without trees where there is none
 abbrev pub TakesOff : List TreeChain → TreeChain → List TreeChain → Type 0
 TakesOff [] chain others = (chain.trees.items ≡ []) × (others ≡ [])
 TakesOff (last ∷ chains) chain others = (chain ≡ last) × (others ≡ chains)
@@ -27,7 +27,7 @@ TakesOff (last ∷ chains) chain others = (chain ≡ last) × (others ≡ chains
 abbrev pub Puts : Option Tree → List TreeChain → List TreeChain → Type 0
 Puts tree old new = (chain : TreeChain) × (chain.trees.items ≡ listed tree) × (new ≡ chain ∷ old)
 
--- chains of these nodes came of others, and hold as a step on the truths of those says
+-- chains of these nodes were made from others, and hold as a step on the truths of those does
 pub record Steps (nodes now : List NodeRecord) (step : Valuation → List (Option Bool) → List (Option Bool))
     (old new : List TreeChain) : Type 0 where
   pub made : AllByRecursion (IsChain now) new

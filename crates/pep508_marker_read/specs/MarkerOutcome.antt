@@ -1,4 +1,4 @@
--- What reading a marker returns, by what there is to read.
+-- The results of reading a marker, for each reading of its text.
 use Rattle.std.specs.Prelude.{◌≡◌, List, Result, Ok, Err}
 use Rattle.pep508_marker.specs.Warnings.{Warning}
 use Rattle.pep508_marker.specs.Expression.{ExpressionRecord}
@@ -18,7 +18,7 @@ abbrev pub IsTreeOf : List NodeRecord → Tree → Formula ExpressionRecord → 
 IsTreeOf nodes tree formula =
     truths.IsTreeOf nodes (λ v. formula_holds (λ e. expression_holds e v) formula) tree
 
--- what was returned is the reading: a tree of its formula, its warnings taken; or a refusal for its reason
+-- the result is the reading: a tree of its formula, its warnings received; or a refusal for its reason
 abbrev pub ReadsMarker : {R : Type 0} → (R → Warning → R → Type 0) → R → R → List NodeRecord
     → Result Tree Refusal → Result Marker Refused → Type 0
 ReadsMarker takes old new nodes (Ok tree) reading =
@@ -26,7 +26,7 @@ ReadsMarker takes old new nodes (Ok tree) reading =
     × IsWarned takes old new marker.warned
 ReadsMarker takes old new nodes (Err refusal) reading = Tells refusal.kind reading
 
--- the same of its formula alone
+-- the result is the reading: its formula, its warnings received; or a refusal for its reason
 abbrev pub SaysMarker : {R : Type 0} → (R → Warning → R → Type 0) → R → R
     → Result (List (Part ExpressionRecord)) Refusal → Result Marker Refused → Type 0
 SaysMarker takes old new (Ok parts) reading =

@@ -1,4 +1,4 @@
--- What is returned of a text that is to be a marker.
+-- The results of reading a text as a marker.
 use Rattle.std.specs.Prelude.{◌≡◌, ℕ, List, Result, Ok, Err}
 use Rattle.pep508_marker.specs.Warnings.{Warning}
 use Rattle.pep508_marker.specs.Expression.{ExpressionRecord}
@@ -12,8 +12,7 @@ use Rattle.pep508_marker_comparison.specs.Outcome.{IsWarned, Shows}
 use Rattle.pep508_marker_read.specs.MarkerReading.{Marker}
 use Rattle.pep508_marker_read.specs.MarkerOutcome.{IsTreeOf}
 
--- what was returned is the marker that a text is: the tree that is named, its warnings taken; or an error for
--- its reason
+-- the result is the marker that a text is: its tree, its warnings received; or an error for its reason
 abbrev pub ReadsMarkerText : {S R T E : Type 0} → (S → Tree) → (R → Warning → R → Type 0) → R → R
     → List NodeRecord → List ℕ → Result S (Pep508Error T E) → Result Marker Refused → Type 0
 ReadsMarkerText named takes old new nodes text (Ok tree) reading =
@@ -21,7 +20,7 @@ ReadsMarkerText named takes old new nodes text (Ok tree) reading =
     × IsWarned takes old new marker.warned
 ReadsMarkerText named takes old new nodes text (Err error) reading = Shows text (told_error error) reading
 
--- the same of its formula alone
+-- the result is the marker that a text is: its formula, its warnings received; or an error for its reason
 abbrev pub SaysMarkerText : {R T E : Type 0} → (R → Warning → R → Type 0) → R → R → List ℕ
     → Result (List (Part ExpressionRecord)) (Pep508Error T E) → Result Marker Refused → Type 0
 SaysMarkerText takes old new text (Ok parts) reading =

@@ -1,4 +1,4 @@
--- What there is to read where brackets nest so deep, and the truth of what words join.
+-- The reading of brackets that nest to a depth, and the truth of joined pieces.
 use Rattle.std.specs.Prelude.{ℕ, suc, zero, Bool, ◌&&◌, ◌||◌, List, [], ◌∷◌, Option, Some, None, Err}
 use Rattle.pep508_marker_comparison.specs.SideReading.{Reading, TooDeep}
 use Rattle.pep508_marker_read.specs.declared.word.Word.{Word}
@@ -7,14 +7,14 @@ use Rattle.pep508_marker_read.specs.Formula.{joined}
 use Rattle.pep508_marker_read.specs.MarkerReading.{Marker, Connective, And, Or, part_at, joined_at}
 use Rattle.pep508_marker_read.specs.MarkerReading.{formula_at}
 
--- ---- what there is to read
+-- ---- readings
 
--- what stands in brackets, where brackets nest at most so deep
+-- the text in brackets, where brackets nest at most `depth` deep
 abbrev pub inner_at : ℕ → List ℕ → Reading Marker
 inner_at zero = λ inside. Err TooDeep
 inner_at (suc depth) = formula_at depth
 
--- what a word joins
+-- the pieces that a word joins
 abbrev pub piece_at : Connective → ℕ → List ℕ → Reading Marker
 piece_at And depth = part_at (inner_at depth)
 piece_at Or depth = joined_at And (part_at (inner_at depth))
@@ -33,7 +33,7 @@ abbrev pub joins : Connective → Bool → Bool → Bool
 joins And = λ a b. a && b
 joins Or = λ a b. a || b
 
--- the truth of what is said with the word between each two, if anything is
+-- the truth of pieces with the word between them, if there are any
 abbrev pub chain_truth : Connective → List Bool → Option Bool
 chain_truth word [] = None
 chain_truth word (b ∷ bs) = joined (joins word) (Some b) (chain_truth word bs)

@@ -1,4 +1,8 @@
 //! Reading chains of comparisons, and brackets.
+//!
+//! A chain ends where no connective follows: before `)`, the end and `or` no `and` can follow, so a part
+//! needs no condition on what follows it. The fuel of a chain is the length of the rest, since each joint
+//! shortens it.
 
 ghost use Rattle.std.specs.Prelude.{◌≡◌, ℕ, ◌*◌, ◌<◌, ◌≤◌, List, length, Ok};
 ghost use Rattle.std.specs.Prelude.{IfOk, IfErr, MatchResult};
@@ -23,19 +27,19 @@ use pep508_marker::Reporter;
 use pep508_marker_comparison::{expect, malformed};
 use std::alloc::Global;
 
-/// What a place in a formula stands before.
+/// A place in a formula, by what is read there next.
 #[derive(Clone, Copy)]
 pub(crate) enum Step<'a> {
-    /// A piece of a chain of `and`.
+    /// Before a piece of a chain of `and`.
     Part(Cursor<'a>),
-    /// What follows a piece.
+    /// After a piece.
     Read(Cursor<'a>),
-    /// What follows the whole formula.
+    /// After the whole formula.
     End(Cursor<'a>),
 }
 
-/// Chains of `and` with `or` between each two, and the place behind them and white space. Brackets may nest
-/// so deep; they take memory and no stack.
+/// Reads chains of `and` with `or` between them, and returns their formula and the place after them and
+/// white space. Brackets may nest `deepest` deep; they take memory and no stack.
 pub(crate) fn read_chains<'a, R: Reporter>(
     alloc: Global,
     deepest: usize,
@@ -62,7 +66,7 @@ pub(crate) fn read_chains<'a, R: Reporter>(
     }
 }
 
-/// A comparison, or the beginning of a formula in brackets.
+/// Reads a comparison, or the beginning of a formula in brackets.
 fn read_part<'a, R: Reporter>(
     alloc: Global,
     deepest: usize,
@@ -94,7 +98,7 @@ fn read_part<'a, R: Reporter>(
     }
 }
 
-/// Puts a piece to the others, and looks for the word that follows.
+/// Adds a piece to the others, and reads the word that follows.
 fn go_on<'a>(
     alloc: Global,
     levels: &mut Levels<'a>,
@@ -117,7 +121,7 @@ fn go_on<'a>(
     }
 }
 
-/// Leaves the brackets of a formula that is over, if it stands in any.
+/// Leaves the innermost brackets of a formula that has ended, if it is in any.
 fn leave<'a>(
     alloc: Global,
     levels: &mut Levels<'a>,
@@ -138,7 +142,7 @@ fn leave<'a>(
     }
 }
 
-/// The place behind the bracket that closes another.
+/// Returns the place after the bracket that closes another.
 fn close<'a>(alloc: Global, opening: Cursor<'a>, end: Cursor<'a>) -> Result<Cursor<'a>, Refusal<'a>>
     ensures read { (marker : Marker) → MatchResult result
         (λ later. closed (marker, behind end.entry) ≡ Ok (marker, behind later))
@@ -156,7 +160,7 @@ fn close<'a>(alloc: Global, opening: Cursor<'a>, end: Cursor<'a>) -> Result<Curs
     expect(alloc, end, ')')
 }
 
-/// The refusal of a bracket that stands in too many others.
+/// Returns the refusal of a bracket that is nested too deep.
 fn refuse_depth<'a>(alloc: Global, opening: Cursor<'a>) -> Refusal<'a>
     ensures fits { Fits result.kind TooDeep }
     ensures of { IsOf opening.entry result }

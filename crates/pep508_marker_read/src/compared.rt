@@ -13,8 +13,8 @@ use pep508_marker::Reporter;
 use pep508_marker_comparison::read_comparison;
 use std::alloc::Global;
 
-/// The comparison at a place, which is left out where it has no meaning, is the next piece; the place behind
-/// it. Refused where a number can't be raised.
+/// Adds the comparison at a place as the next piece, or that it is left out where it is meaningless, and
+/// returns the place after it. Refused where a number can't be raised.
 #[tactic(auto, unfolding(crate::specs::MarkerReading::comparison_at))]
 pub(crate) fn read_compared<'a, R: Reporter>(
     alloc: Global,

@@ -1,4 +1,7 @@
-//! Trees of chains.
+//! Trees of chains of `and` and `or`.
+//!
+//! A chain's trees are joined by one call, once the chain is read: joining from the left would walk over
+//! everything joined before, again and again. `or` is the negation of the conjunction of the negations.
 
 ghost use Rattle.std.specs.Prelude.{◌≡◌, IfOk, IfSome, map, option_map, ◌++◌};
 ghost use Rattle.std.specs.List.{AllByRecursion};
@@ -11,7 +14,7 @@ use pep508_conjunctions::conjunction_of_all;
 use pep508_tree::{Interner, MarkerTree};
 use std::alloc::{AllocError, Global};
 
-/// The tree of trees with a word between each two; none where there are none. Costs as much as
+/// Returns the tree of trees with a word between them; `None` where there are none. Costs are those of
 /// `conjunction_of_all`.
 pub(crate) fn join_all(
     alloc: Global,
@@ -41,7 +44,7 @@ pub(crate) fn join_all(
     }
 }
 
-/// Puts a tree behind the others, where there is one.
+/// Appends a tree, where there is one.
 pub(crate) fn push_part(
     trees: &mut Vec<MarkerTree>,
     part: Option<MarkerTree>,

@@ -1,4 +1,4 @@
-//! Reading markers.
+//! Reading markers at a place in a text.
 
 ghost use Rattle.std.specs.Prelude.{◌≡◌, chars, IfErr};
 ghost use Rattle.pep508_error.specs.Cursors.{rest_of};
@@ -16,16 +16,20 @@ use pep508_marker_comparison::{malformed, refuse_rest};
 use pep508_tree::{Interner, MarkerTree};
 use std::alloc::Global;
 
-/// How deep brackets may nest.
+/// The deepest nesting of brackets.
 const DEEPEST: usize = 256;
 
-/// The formula of the marker that stands at a place, up to the text's end (PEP 508, "Environment Markers").
-/// A comparison without a meaning is left out. The warnings are reported in their order, those of a text that
-/// is refused behind them too.
+/// Reads the formula of the marker at a place, up to the text's end (PEP 508, "Environment Markers"). A
+/// meaningless comparison is left out. The warnings are reported in their order, also where the text is
+/// refused after them.
 ///
 /// Brackets nest at most 256 deep, and take no stack. Linear in the text but for the versions that a key is
 /// compared with at once, of which n take O(n log n). Takes memory for the formula, for the texts of the
-/// warnings that are wanted, and for a refusal, which shows the part at fault.
+/// warnings that are wanted, and for a refusal.
+///
+/// # Errors
+/// The part at fault where there is no marker, where brackets nest deeper, or where a version number can't
+/// be raised; or lack of memory.
 #[tactic(auto, unfolding(crate::specs::MarkerReading::marker_at))]
 pub fn read_formula<'a, R: Reporter>(
     alloc: Global,
@@ -51,14 +55,18 @@ pub fn read_formula<'a, R: Reporter>(
     }
 }
 
-/// The tree of the marker that stands at a place, up to the text's end (PEP 508, "Environment Markers"). A
-/// comparison without a meaning is passed over; where all are, the marker holds. The warnings are reported in
-/// their order, those of a text that is refused behind them too.
+/// Reads the tree of the marker at a place, up to the text's end (PEP 508, "Environment Markers"). A
+/// meaningless comparison is ignored; where all are, the marker holds. The warnings are reported in their
+/// order, also where the text is refused after them.
 ///
 /// Brackets nest at most 256 deep, and take no stack. Linear in the text but for joining the trees of
-/// comparisons: those of a chain of `and` or `or` cost what `conjunction_of_all` does. None of that counts as
-/// one of the interner's conjunctions. Takes memory for the trees, for the texts of the warnings that are
-/// wanted, and for a refusal, which shows the part at fault.
+/// comparisons: those of a chain of `and` or `or` cost what `conjunction_of_all` does. None of that counts
+/// as one of the interner's conjunctions. Takes memory for the trees, for the texts of the warnings that
+/// are wanted, and for a refusal.
+///
+/// # Errors
+/// The part at fault where there is no marker, where brackets nest deeper, or where a version number can't
+/// be raised; or lack of memory.
 pub fn read_marker<'a, R: Reporter>(
     alloc: Global,
     interner: &mut Interner,

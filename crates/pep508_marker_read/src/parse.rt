@@ -22,6 +22,10 @@ use std::alloc::Global;
 /// Reads the formula of a marker, as `MarkerTree::parse_reporter` reads its tree; its warnings are reported
 /// in their order. Cost and depth are those of `read_formula`, and an error takes memory for a copy of the
 /// text.
+///
+/// # Errors
+/// `String` where the text is not a marker, or brackets nest deeper than 256; `NumberAtEnd` where a version
+/// number can't be raised; `Memory` where memory ran out.
 pub fn parse_formula<T: Pep508Url, R: Reporter>(
     alloc: Global,
     text: &str,
@@ -38,14 +42,18 @@ pub fn parse_formula<T: Pep508Url, R: Reporter>(
     }
 }
 
-/// What is read of the texts of markers.
+/// Reading the texts of markers.
 pub trait MarkerTreeReading {
-    /// The tree that is meant.
+    /// The tree that a value is.
     ghost named: { Self → Tree };
 
-    /// Reads a marker, as `python_version > '3.8' and extra == 'test'`, with white space around it (PEP 508,
-    /// "Environment Markers"); its warnings are reported in their order. Cost, depth and count are those of
-    /// `read_marker`, and an error takes memory for a copy of the text.
+    /// Reads a marker, as `python_version > '3.8' and extra == 'test'`, with white space around it (PEP
+    /// 508, "Environment Markers"); its warnings are reported in their order. Cost, depth and count are
+    /// those of `read_marker`, and an error takes memory for a copy of the text.
+    ///
+    /// # Errors
+    /// `String` where the text is not a marker, or brackets nest deeper than 256; `NumberAtEnd` where a
+    /// version number can't be raised; `Memory` where memory ran out.
     fn parse_reporter<T: Pep508Url, R: Reporter>(
         alloc: Global,
         interner: &mut Interner,
@@ -60,6 +68,9 @@ pub trait MarkerTreeReading {
         ensures counts { interner.new.conjunctions ≡ interner.old.conjunctions };
 
     /// Reads a marker as `parse_reporter` does, and drops its warnings.
+    ///
+    /// # Errors
+    /// Those of `parse_reporter`.
     fn parse_str<T: Pep508Url>(
         alloc: Global,
         interner: &mut Interner,
@@ -70,7 +81,10 @@ pub trait MarkerTreeReading {
         ensures keeps { Extends interner.old.nodes interner.new.nodes }
         ensures counts { interner.new.conjunctions ≡ interner.old.conjunctions };
 
-    /// Reads a marker as `parse_str` does, with errors of the usual kind.
+    /// Reads a marker as `parse_str` does, with the error type of requirements with a `VerbatimUrl`.
+    ///
+    /// # Errors
+    /// Those of `parse_reporter`.
     fn from_str(
         alloc: Global,
         interner: &mut Interner,
@@ -81,7 +95,10 @@ pub trait MarkerTreeReading {
         ensures keeps { Extends interner.old.nodes interner.new.nodes }
         ensures counts { interner.new.conjunctions ≡ interner.old.conjunctions };
 
-    /// Reads the marker that a JSON text is, as `from_str` does. `Shape` where the value is no text.
+    /// Reads the marker that a JSON text is, as `from_str` does.
+    ///
+    /// # Errors
+    /// `Shape` where the value is not a text; `Text` with the error of `from_str`, lack of memory too.
     fn from_value(
         alloc: Global,
         interner: &mut Interner,

@@ -1,4 +1,9 @@
-//! Trees of formulas.
+//! Building the tree of a formula.
+//!
+//! The chains are found again in the formula: the trees that wait are chains with a word (`TreeChain`),
+//! which grow while the word stays the same, so that all trees of a chain are joined at once, as
+//! `conjunction_of_all` does it. A piece of which everything was left out has no tree, rather than a
+//! constant one, which would count under `and` or under `or`.
 
 ghost use Rattle.std.specs.Prelude.{◌≡◌, None, IfOk, OnOk, reverse};
 ghost use Rattle.std.specs.List.{AllByRecursion};
@@ -18,14 +23,14 @@ use pep508_formula::{FormulaPart, MarkerFormula};
 use pep508_tree::{Interner, MarkerTree};
 use std::alloc::{AllocError, Global};
 
-/// Trees with a word between each two. Where there is one tree, or none, either word says the same.
+/// Trees with a word between them. With one tree, or none, either word means the same.
 #[derive(Drop)]
 pub(crate) struct TreeChain {
     pub word: Word,
     pub trees: Vec<MarkerTree>,
 }
 
-/// The last chain, which is taken off; one without trees where there is none.
+/// Removes and returns the last chain; one without trees where there is none.
 fn taken(alloc: Global, stack: &mut Vec<TreeChain>) -> TreeChain
     ensures { TakesOff (reverse stack.old.items) result (reverse stack.new.items) }
 {
@@ -38,7 +43,8 @@ fn taken(alloc: Global, stack: &mut Vec<TreeChain>) -> TreeChain
     }
 }
 
-/// A chain of this word that holds where a chain does, whose trees are joined where it has the other word.
+/// Returns a chain of this word that holds where the given one does; its trees are joined where it has the
+/// other word.
 fn with_word(
     alloc: Global,
     interner: &mut Interner,
@@ -63,7 +69,7 @@ fn with_word(
     Ok(TreeChain { word, trees })
 }
 
-/// Two chains with the word between them.
+/// Returns the chain of two chains with the word between them.
 fn join_two(
     alloc: Global,
     interner: &mut Interner,
@@ -86,7 +92,7 @@ fn join_two(
     Ok(chain)
 }
 
-/// Puts the word between the last two chains.
+/// Joins the last two chains by the word.
 fn join_last(
     alloc: Global,
     interner: &mut Interner,
@@ -107,7 +113,7 @@ fn join_last(
     Ok(())
 }
 
-/// Puts a tree behind the chains, as one of its own; a chain without trees where there is none.
+/// Appends a tree as a chain of its own; a chain without trees where there is none.
 fn put_tree(
     alloc: Global,
     stack: &mut Vec<TreeChain>,
@@ -124,7 +130,7 @@ fn put_tree(
     Ok(())
 }
 
-/// The chains behind one part more.
+/// Updates the chains by one more part of the formula.
 fn put_part(
     alloc: Global,
     interner: &mut Interner,
@@ -149,8 +155,8 @@ fn put_part(
     }
 }
 
-/// The tree of a formula; that of one of which all is left out always holds. Takes no stack, and none of it
-/// counts as one of the interner's conjunctions.
+/// Returns the tree of a formula; the tree that always holds where all comparisons are left out. Takes no
+/// stack, and none of it counts as one of the interner's conjunctions.
 ///
 /// The trees of a chain of `and` or `or` are joined together, which costs what `conjunction_of_all` does.
 pub fn tree_of(

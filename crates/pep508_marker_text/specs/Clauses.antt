@@ -1,5 +1,5 @@
--- The clauses of a diagram of markers: for each way from its root to a leaf that is true, what the values of
--- the variables on that way are. Edges of one variable that lead to one diagram are said together.
+-- The clauses of a diagram of markers: for each way from its root to a leaf that is true, the values of the
+-- variables on that way. Edges of one variable that lead to one diagram are written together.
 use Rattle.std.specs.Prelude.{ℕ, ◌==◌, Bool, if◌then◌else◌, cond, List, [], ◌∷◌, ◌++◌, map}
 use Rattle.std.specs.List.{flat_map}
 use Rattle.version_ranges.specs.declared.boundary.Boundary.{Boundary}
@@ -21,8 +21,8 @@ pub record Part : Type 0 where
   pub diagram : Diagram Question
   pub clauses : List Clause
 
--- what a diagram's first variable leads to: from boundaries on, or where a flag is set and where it is not;
--- of a leaf there is none
+-- the edges of a diagram's first variable: from endpoints on, or where a flag is set and where it is not; a
+-- leaf has none
 pub data Edges : Type 0 where
   NoEdges : Edges
   Versions : VersionVariable → Part → List (Branch VersionRecord Part) → Edges
@@ -36,8 +36,8 @@ pub record Walk : Type 0 where
 
 -- ---- edges
 
--- what a variable leads to from a boundary on: the edges of what stands there, where it asks of that variable
--- too, and else what stands there
+-- the edges of a variable from an endpoint on: those of the child there, where it tests that variable too,
+-- and else the child
 abbrev pub versions_from : VersionVariable → Boundary VersionRecord → Walk → Edges
     → List (Branch VersionRecord Part)
 versions_from key boundary walk (Versions other first later) =
@@ -51,7 +51,7 @@ texts_from key boundary walk (Texts other first later) =
     (record { boundary = boundary; child = walk.part } ∷ [])
 texts_from key boundary walk edges = record { boundary = boundary; child = walk.part } ∷ []
 
--- the edges of a question with what follows where it is answered by yes, and by no
+-- the edges of a question with the diagrams for yes and for no
 abbrev pub edges_of : Question → Walk → Walk → Edges
 edges_of (VersionBelow key boundary) low high =
     Versions key low.part (versions_from key boundary high high.edges)

@@ -1,5 +1,5 @@
--- What stands between boundaries, grouped: the different things, in the order in which each first stands
--- there, and the points at which a thing stands.
+-- The children between endpoints, grouped: the different ones, in the order in which each first occurs, and
+-- the points at which one occurs.
 use Rattle.std.specs.Prelude.{Bool, not, cond, List, [], ◌∷◌, map}
 use Rattle.std.specs.List.{filter}
 use Rattle.version_ranges.specs.declared.boundary.Boundary.{Boundary}
@@ -13,17 +13,17 @@ abbrev pub firsts : {C : Type 0} → (C → C → Bool) → List C → List C
 firsts same [] = []
 firsts same (x ∷ xs) = x ∷ filter (λ y. not (same x y)) (firsts same xs)
 
--- what stands between the boundaries, in their order
+-- the children between the endpoints, in their order
 abbrev pub standing : {T C : Type 0} → C → List (Branch T C) → List C
 standing first later = first ∷ map (λ branch. branch.child) later
 
--- the boundaries at which a test of what stands there turns; before them it gives `held`
+-- the endpoints at which the result of a test of the child flips; before them it is `held`
 abbrev pub turning : {T C : Type 0} → (C → Bool) → Bool → List (Branch T C) → List (Boundary T)
 turning test held [] = []
 turning test held (branch ∷ later) =
     cond (flips held (test branch.child)) (branch.boundary ∷ turning test (test branch.child) later)
     (turning test held later)
 
--- the points at which what stands there passes a test, as a set
+-- the points at which the child passes a test, as a set
 abbrev pub points_where : {T C : Type 0} → (C → Bool) → C → List (Branch T C) → List (Point T)
 points_where test first later = turns_of (test first) (turning test (test first) later)

@@ -16,7 +16,7 @@ disjunction diagram = simplified same_term opposite_term (filter has_some (claus
 abbrev pub clause_text : Clause → List ℕ
 clause_text clause = join_by expression_text (codes " and ") clause
 
--- a clause beside others: in brackets where it has several terms
+-- a clause among others: in brackets where it has several terms
 abbrev pub bracketed_text : Clause → List ℕ
 bracketed_text (term ∷ other ∷ terms) = codes "(" ++ clause_text (term ∷ other ∷ terms) ++ codes ")"
 bracketed_text clause = clause_text clause

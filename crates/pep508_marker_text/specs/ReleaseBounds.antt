@@ -23,6 +23,6 @@ AsksOfReleases (VersionBelow key boundary) = StandsAtRelease boundary
 AsksOfReleases (TextBelow key boundary) = Unit {0}
 AsksOfReleases (IsSet flag) = Unit {0}
 
--- no other version stands in a question of the diagram
+-- each version in the diagram's questions is a release of epoch 0
 abbrev pub HasReleasesAlone : Diagram Question → Type 0
 HasReleasesAlone = AllQuestions AsksOfReleases

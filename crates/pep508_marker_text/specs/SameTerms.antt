@@ -1,5 +1,5 @@
 -- When two terms of clauses are the same, and when one is the negation of the other: of one key and one
--- value. A list of versions stands in no clause.
+-- value. A clause contains no list of versions.
 use Rattle.std.specs.Prelude.{ℕ, ◌==◌, ◌&&◌, Bool, false, List}
 use Rattle.std.specs.Option.{option_map_or}
 use Rattle.std.specs.Ordering.{eq_by_cmp}
@@ -45,7 +45,7 @@ extra_operator_rank extras.NotEqual = 1
 abbrev pub same_text : List ℕ → List ℕ → Bool
 same_text = eq_by_cmp text_cmp
 
--- equal versions with as many release numbers, which a star counts
+-- equal versions with equally many release numbers, which a star counts
 abbrev pub same_version : VersionRecord → VersionRecord → Bool
 same_version v w = version_eq v w && same_text v.release w.release
 
@@ -56,7 +56,7 @@ same_extra asked other = false
 
 -- ---- terms
 
--- one key and one value, and operators that the test takes
+-- one key and one value, and operators that the test accepts
 abbrev pub terms_by : (Operator → Operator → Bool) → (MarkerOperator → MarkerOperator → Bool)
     → (ExtraOperator → ExtraOperator → Bool) → ExpressionRecord → ExpressionRecord → Bool
 terms_by versions texts names (Version key specifier) (Version other_key other) =

@@ -1,5 +1,5 @@
--- The comparisons that together say that a key's value lies in a set of points: by what it differs from,
--- where the set is all but that, and else interval by interval.
+-- The comparisons that together express that a key's value lies in a set of points: by what it differs
+-- from, where the set is all but that, and else interval by interval.
 use Rattle.std.specs.Prelude.{if◌then◌else◌, List, [], ◌∷◌, ◌++◌, map, Option, Some, None, option_map}
 use Rattle.std.specs.Option.{option_or}
 use Rattle.std.specs.Ordering.{eq_by_cmp}
@@ -14,8 +14,8 @@ use Rattle.pep508_marker.specs.Expression.{ExpressionRecord}
 abbrev pub Clause : Type 0
 Clause = List ExpressionRecord
 
--- the comparisons of a key with a value, by `==`, `!=`, `>=`, `>`, `<=` and `<`; and with the values from one
--- on up to below another by `==` and `!=` and a star, where a star stands for them
+-- the comparisons of a key with a value, by `==`, `!=`, `>=`, `>`, `<=` and `<`; and with the values from
+-- one on up to below another by `==` and `!=` and a star, where a star matches them
 pub record Saying (T : Type 0) : Type 0 where
   pub cmp : T → T → Ordering
   pub equal : T → ExpressionRecord
@@ -28,7 +28,8 @@ pub record Saying (T : Type 0) : Type 0 where
   pub no_star : T → T → Option ExpressionRecord
 
 module _ {T : Type 0} where
-  -- the values that are left out where each turn at a value is followed by the turn just above that value
+  -- the values that are left out where each endpoint at a value is followed by the endpoint just above that
+  -- value
   abbrev pub left_out : (T → T → Ordering) → List (Point T) → Option (List T)
   left_out cmp [] = Some []
   left_out cmp (At v ∷ JustAbove w ∷ later) =
@@ -36,12 +37,13 @@ module _ {T : Type 0} where
   left_out cmp turns = None
 
   module _ (say : Saying T) where
-    -- the one star of what is left out between two turns
+    -- the one star of what is left out between two endpoints
     abbrev pub star_out : List (Point T) → Option Clause
     star_out (At v ∷ At w ∷ []) = option_map (λ term. term ∷ []) (say.no_star v w)
     star_out turns = None
 
-    -- what the value differs from, where the set is all but some values, or all but those of a star
+    -- the clause of what the value differs from, where the set is all but some values, or all but those of
+    -- a star
     abbrev pub exclusion : List (Point T) → Option Clause
     exclusion (BelowAll ∷ turns) =
         option_or (option_map (map say.differs) (left_out say.cmp turns)) (star_out turns)
@@ -75,7 +77,7 @@ module _ {T : Type 0} where
     one_or_intervals set (Some clause) = clause ∷ []
     one_or_intervals set None = map interval_clause (intervals set)
 
-    -- clauses of which one holds where the value lies in the set: one of what it differs from, or one of each
-    -- interval
+    -- clauses, one of which holds where the value lies in the set: one of what it differs from, or one for
+    -- each interval
     abbrev pub set_clauses : List (Point T) → List Clause
     set_clauses set = one_or_intervals set (exclusion set)

@@ -3,7 +3,8 @@
 use Rattle.std.specs.Prelude.{◌&&◌, ◌||◌, not, Bool, true, false, cond, List, [], ◌∷◌, ◌++◌}
 use Rattle.std.specs.List.{list_all, list_any}
 
--- without those that a test drops, in turn: it looks at the element and at the others that still stand
+-- the elements without those that a test drops, in order: it looks at the element and at the others that
+-- are still there
 abbrev pub sifted : {A : Type 0} → (A → List A → Bool) → List A → List A → List A
 sifted drops kept [] = kept
 sifted drops kept (x ∷ later) =
@@ -14,16 +15,17 @@ has_some [] = false
 has_some (x ∷ xs) = true
 
 module _ {T : Type 0} (same opposite : T → T → Bool) where
-  -- whether a term stands in a clause
+  -- whether a clause contains a term
   abbrev pub stands_in : List T → T → Bool
   stands_in clause term = list_any (same term) clause
 
-  -- whether a clause has the term nowhere, and consists of negations of it and of terms that stand with it
+  -- whether a clause makes the term needless: it doesn't contain it, and consists of negations of it and of
+  -- terms around it
   abbrev pub spares : T → List T → List T → Bool
   spares term rest clause =
       list_all (λ other. not (same term other) && (opposite term other || stands_in rest other)) clause
 
-  -- whether a term that stands with others in its clause is needless beside other clauses
+  -- whether a term among others in its clause is needless because of other clauses
   abbrev pub is_needless : List (List T) → T → List T → Bool
   is_needless others term rest = has_some rest && list_any (spares term rest) others
 
@@ -33,7 +35,7 @@ module _ {T : Type 0} (same opposite : T → T → Bool) where
   shortened_behind done (clause ∷ later) =
       shortened_behind (done ++ (sifted (is_needless (done ++ later)) [] clause ∷ [])) later
 
-  -- whether all terms of some other clause stand in the clause
+  -- whether a clause contains all terms of some other clause
   abbrev pub is_covered : List T → List (List T) → Bool
   is_covered clause others = list_any (λ other. list_all (stands_in clause) other) others
 

@@ -1,4 +1,4 @@
--- The comparisons in which a key's values are said (PEP 508, "Environment Markers"; PEP 440, "Version
+-- The comparisons that express a key's values (PEP 508, "Environment Markers"; PEP 440, "Version
 -- specifiers").
 use Rattle.std.specs.Prelude.{ℕ, ◌&&◌, Bool, cond, List, [], ◌∷◌, Option, Some, None, option_map}
 use Rattle.pep440_text.specs.Record.{VersionRecord, release_record, without_local}
@@ -28,7 +28,7 @@ abbrev pub key_of_variable : VersionVariable → MarkerValueVersion
 key_of_variable ImplementationVersion = keys.ImplementationVersion
 key_of_variable PythonFullVersion = keys.PythonFullVersion
 
--- two release numbers; the second is 0 where there is one alone
+-- the two numbers of a release; the second is 0 where there is only one
 abbrev pub two_numbers : List ℕ → Option (List ℕ)
 two_numbers (major ∷ []) = Some (major ∷ 0 ∷ [])
 two_numbers (major ∷ minor ∷ []) = Some (major ∷ minor ∷ [])
@@ -70,7 +70,7 @@ version_saying key = record {
   no_star = star_term key versions.NotEqualStar;
 }
 
--- ---- texts, of which no star says anything
+-- ---- texts, which no star expresses
 
 abbrev pub text_saying : MarkerValueString → Saying (List ℕ)
 text_saying key = record {

@@ -7,7 +7,7 @@ module _ {T : Type 0} where
   abbrev pub one_holds : (T → Bool) → List (List T) → Bool
   one_holds truth clauses = list_any (list_all truth) clauses
 
-  -- a truth of terms: the same ones hold together, and of a term and its negation just one holds
+  -- a truth of terms: equal ones hold together, and of a term and its negation just one holds
   pub record IsTruth (same opposite : T → T → Bool) (truth : T → Bool) : Type 0 where
     pub alike : (term other : T) → same term other ≡ true → truth term ≡ truth other
     pub contrary : (term other : T) → opposite term other ≡ true → truth other ≡ not (truth term)

@@ -1,4 +1,4 @@
-//! The answers. What is told of a question is written behind one text, so that no function below owns one.
+//! The answers. Each is appended to one text, so that no function below owns one.
 
 use crate::asked::asked as asked_of;
 use crate::environment::environment;
@@ -16,7 +16,7 @@ use pep508_tree::Interner;
 use serde_json::Value;
 use std::alloc::{AllocError, Global};
 
-/// The answer to a question, `no question` for another form.
+/// Returns the answer to a question; `no question` for another form.
 pub fn answer(alloc: Global, environments: &str, question: &str) -> Result<String, AllocError> {
     let mut answer = String::new(alloc);
     told(alloc, &mut answer, environments, question)?;
@@ -49,7 +49,7 @@ fn on_markers(
     }
 }
 
-/// The answer to a question on more than texts alone, or to one of another kind.
+/// Answers a question on more than texts alone, or one of another kind.
 fn on_many(
     alloc: Global,
     answer: &mut String,
@@ -77,7 +77,7 @@ fn on_many(
     }
 }
 
-/// The answer to a question on two texts.
+/// Answers a question on two texts.
 fn on_two(alloc: Global, answer: &mut String, interner: &mut Interner, question: &Value) -> Told {
     let (asked, text, other) = (
         text_at(question, 0),
@@ -104,7 +104,7 @@ fn on_two(alloc: Global, answer: &mut String, interner: &mut Interner, question:
     }
 }
 
-/// The answer to a question on one text.
+/// Answers a question on one text.
 fn on_one(
     alloc: Global,
     answer: &mut String,

@@ -1,4 +1,4 @@
-//! What is asked of the questions of markers.
+//! Answers on the kinds of questions in markers.
 
 use crate::reading::read;
 use crate::stop::{Told, said};
@@ -6,7 +6,7 @@ use pep508_questions::{Asked, MarkerTreeQuestions};
 use pep508_tree::Interner;
 use std::alloc::Global;
 
-/// Of what kinds the questions of a marker's tree are.
+/// Answers with the kinds of the questions of a marker's tree.
 pub fn asked(alloc: Global, answer: &mut String, interner: &mut Interner, text: &str) -> Told {
     let tree = read(alloc, answer, interner, text)?;
     let asked = tree.asked(alloc, interner)?;

@@ -1,4 +1,4 @@
-//! What is asked of the pieces of comparisons.
+//! Answers on the pieces of comparisons.
 
 ghost use Rattle.pep508_expression.specs.Trees.{IsComparison};
 ghost use Rattle.pep508_marker.specs.Expression.{expression_of};
@@ -17,7 +17,7 @@ use std::alloc::Global;
 use std::fmt::Write;
 use std::ops::Bound;
 
-/// What stops a question on a text that is no key or operator.
+/// Stops a question on a text that is not a key or operator.
 pub fn stopped(answer: &mut String, error: &MarkerTextError) -> Stop {
     match error {
         MarkerTextError::Memory => Stop::Memory,
@@ -32,7 +32,7 @@ fn operator_of(alloc: Global, answer: &mut String, text: &str) -> Result<MarkerO
     }
 }
 
-/// An operator, what it is with its sides exchanged and negated, and as an operator of specifiers and extras.
+/// Answers with an operator, its inverse and its negation, and as an operator of specifiers and extras.
 pub fn operator(alloc: Global, answer: &mut String, text: &str) -> Told {
     let operator = operator_of(alloc, answer, text)?;
     let inverted = operator.invert();
@@ -47,7 +47,8 @@ pub fn operator(alloc: Global, answer: &mut String, text: &str) -> Told {
     answered(write!(answer, "{of_versions:?}, {of_extras:?}, {other:?}"))
 }
 
-/// A key: its name, and of a key of texts the name that it was written by and whether that is old.
+/// Answers with a key: its name, and for a key of texts the name by which it was written and whether that
+/// is old.
 pub fn key(alloc: Global, answer: &mut String, text: &str) -> Told {
     match MarkerValue::from_str(alloc, text) {
         Ok(value) => key_shown(answer, &value),
@@ -70,7 +71,7 @@ fn key_shown(answer: &mut String, value: &MarkerValue) -> Told {
     }
 }
 
-/// The print of a copy of a side of a comparison: a key, or a text.
+/// Answers with the print of a copy of a side of a comparison: a key, or a text.
 pub fn side(alloc: Global, answer: &mut String, key: &str, text: &str) -> Told {
     if key.is_empty() {
         let text = MarkerValue::QuotedString(String::from_str(alloc, text)?);
@@ -87,8 +88,8 @@ fn copied(alloc: Global, answer: &mut String, value: &MarkerValue) -> Told {
     put(answer, &copy)
 }
 
-/// The terms of a lower and an upper bound, of both together and of each by itself. A bracket includes the
-/// character behind it, and a parenthesis leaves it out.
+/// Answers with the terms of a lower and an upper bound, of both together and of each by itself. A bracket
+/// includes the character after it, and a parenthesis excludes it.
 pub fn bounds(answer: &mut String, lower: &str, upper: &str) -> Told {
     let (lower, upper) = (bound(lower), bound(upper));
     let both = MarkerOperator::from_bounds((lower.as_ref(), upper.as_ref()));
@@ -106,7 +107,7 @@ fn bound(written: &str) -> Bound<char> {
     }
 }
 
-/// The text of the tree of a comparison, whose key is one of texts or `extra`.
+/// Answers with the text of the tree of a comparison, whose key is one of texts or `extra`.
 pub fn comparison(
     alloc: Global,
     answer: &mut String,
@@ -122,7 +123,7 @@ pub fn comparison(
     }
 }
 
-/// A key of texts, none of `extra`.
+/// Returns a key of texts; `None` for `extra`.
 fn key_of(
     alloc: Global,
     answer: &mut String,
@@ -183,7 +184,7 @@ fn of_name(
     tree_text(alloc, answer, interner, &expression)
 }
 
-/// The extra of a name, or the text where it is none.
+/// Returns the extra of a name, or the text where it is not a name.
 fn extra(alloc: Global, text: &str) -> Result<MarkerValueExtra, Stop> {
     match ExtraName::from_str(alloc, text) {
         Ok(name) => Ok(MarkerValueExtra::Extra(name)),

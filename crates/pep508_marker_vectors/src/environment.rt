@@ -1,11 +1,11 @@
-//! The environments that questions name.
+//! The environments that questions refer to.
 
 use crate::stop::{Stop, stop_behind};
 use pep508_environment::{EnvironmentError, EnvironmentMember, MarkerEnvironment};
 use serde_json::Value;
 use std::alloc::Global;
 
-/// The environment of a name: what stands behind it, and a tab, in a line of a text.
+/// Returns the environment of a name: the text after the name and a tab in a line of a text.
 pub fn environment(
     alloc: Global,
     answer: &mut String,
@@ -18,7 +18,7 @@ pub fn environment(
     }
 }
 
-/// The environment of a JSON text.
+/// Returns the environment of a JSON text.
 pub fn environment_of(
     alloc: Global,
     answer: &mut String,
@@ -42,7 +42,7 @@ fn environment_in(
     }
 }
 
-/// What is wrong with an environment, with the name of the member at fault.
+/// Answers with what is wrong with an environment, and the name of the member at fault.
 fn fault(answer: &mut String, error: EnvironmentError) -> Stop {
     let words = match error {
         EnvironmentError::Memory => return Stop::Memory,

@@ -16,14 +16,15 @@ use pep508_tree::{Interner, MarkerTree};
 use serde_json::Value;
 use std::alloc::{AllocError, Global};
 
-/// Where a marker is evaluated.
+/// The environment and extras for which a marker is evaluated.
 #[derive(Drop)]
 pub struct Place<'a> {
     pub environment: &'a MarkerEnvironment,
     pub extras: &'a [ExtraName],
 }
 
-/// The answer to a question on a marker in an environment with extras, which stand from the fourth place on.
+/// Answers a question on a marker in an environment with extras, which are at the fourth place and after
+/// it.
 pub fn evaluated(
     alloc: Global,
     answer: &mut String,
@@ -67,7 +68,7 @@ fn evaluated_at(
     }
 }
 
-/// Whether a marker holds, with the warnings that a reporter of this program's own is told.
+/// Answers whether a marker holds, with the warnings that are reported to a reporter of this program's own.
 fn told(
     alloc: Global,
     answer: &mut String,
@@ -87,7 +88,7 @@ fn told(
     )
 }
 
-/// The answer that each call gives, where all give the same.
+/// Returns the answer of each call, where all are the same.
 fn one_answer(
     alloc: Global,
     interner: &Interner,
@@ -111,7 +112,7 @@ fn word(holds: bool) -> &'static str {
     if holds { "true" } else { "false" }
 }
 
-/// The same with the warnings that are collected.
+/// Answers whether a marker holds, with the warnings that are collected.
 fn collected(
     alloc: Global,
     answer: &mut String,
@@ -138,7 +139,7 @@ fn listed(
     Ok(())
 }
 
-/// The same with the warnings that a closure is called with.
+/// Answers whether a marker holds, with the warnings that a closure is called with.
 fn called(
     alloc: Global,
     answer: &mut String,
@@ -169,7 +170,7 @@ fn called_with(
     tree.evaluate_reporter(alloc, interner, environment, extras, &mut reporter)
 }
 
-/// The same with the records of a log that the warnings are passed to.
+/// Answers whether a marker holds, with the records of a log that the warnings are passed to.
 fn logged(
     alloc: Global,
     answer: &mut String,
@@ -186,7 +187,7 @@ fn logged(
     log.tell(answer, word(holds))
 }
 
-/// Whether a marker holds, asked with a reporter that wants no warning.
+/// Answers whether a marker holds, with a reporter that wants no warning.
 fn silent(
     alloc: Global,
     answer: &mut String,
@@ -201,7 +202,7 @@ fn silent(
     truth(answer, holds)
 }
 
-/// Whether some environment with just these extras makes a marker hold.
+/// Answers whether some environment with just these extras makes a marker hold.
 pub fn anywhere(
     alloc: Global,
     answer: &mut String,

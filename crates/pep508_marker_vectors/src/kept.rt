@@ -1,4 +1,4 @@
-//! Earlier trees where a call is refused memory.
+//! Earlier trees where a call runs out of memory.
 
 ghost use Rattle.std.specs.Prelude.{IfOk};
 ghost use Rattle.pep508_tree.specs.Meaning.{IsTree, Extends};
@@ -14,7 +14,7 @@ use std::alloc::{AllocError, Global};
 use std::fmt::Write;
 
 /// Two markers, and what is made of them: `and`, `or`, `forgotten`, which is `and` once more after the
-/// first one was forgotten, or a marker that is read beside them.
+/// first one was forgotten, or a marker that is read besides them.
 #[derive(Drop)]
 pub struct Call<'a> {
     pub left: &'a str,
@@ -22,8 +22,8 @@ pub struct Call<'a> {
     pub made: &'a str,
 }
 
-/// Which of two markers hold in an environment, and the text of the tree that a call makes. Where the call is
-/// refused memory it is made again; `lost` is the answer if the markers then hold otherwise.
+/// Answers which of two markers hold in an environment, and the text of the tree that a call makes. Where
+/// the call runs out of memory it is made again; `lost` is the answer if the markers then hold otherwise.
 pub fn keeps(
     alloc: Global,
     answer: &mut String,
@@ -41,7 +41,7 @@ pub fn keeps(
     text_of(alloc, answer, interner, tree)
 }
 
-/// The tree that a call makes, at the second attempt where the first is refused memory.
+/// Returns the tree that a call makes, at the second attempt where the first runs out of memory.
 fn made_again(
     alloc: Global,
     answer: &mut String,
@@ -71,7 +71,7 @@ fn made_again(
     }
 }
 
-/// Which of two trees hold.
+/// Returns which of two trees hold.
 fn holding(
     interner: &Interner,
     environment: &MarkerEnvironment,
@@ -116,7 +116,7 @@ fn made(
     }
 }
 
-/// The conjunction once it was made and forgotten, of the trees in their other order.
+/// Returns the conjunction of the trees in their other order, after it was made and forgotten.
 fn and_forgotten(
     alloc: Global,
     interner: &mut Interner,

@@ -1,4 +1,4 @@
-//! What is asked of environments.
+//! Answers on environments.
 
 use crate::comparisons::stopped;
 use crate::environment::{environment, environment_of};
@@ -14,7 +14,7 @@ use serde_json::Value;
 use std::alloc::{AllocError, Global};
 use std::fmt::Write;
 
-/// What an environment has for a key of a marker.
+/// Answers with the value of an environment for a key of a marker.
 pub fn key(alloc: Global, answer: &mut String, environments: &str, name: &str, key: &str) -> Told {
     let environment = environment(alloc, answer, environments, name)?;
     key_in(alloc, answer, &environment, key)
@@ -35,7 +35,7 @@ fn read_by(answer: &mut String, environment: &MarkerEnvironment, key: &MarkerVal
     }
 }
 
-/// The text that an environment has under a name.
+/// Answers with the text that an environment has under a name.
 pub fn member(
     alloc: Global,
     answer: &mut String,
@@ -64,7 +64,7 @@ fn text_under<'a>(environment: &'a MarkerEnvironment, member: &str) -> &'a str {
     }
 }
 
-/// The value of an environment with another text as one member.
+/// Answers with the value of an environment with another text as one member.
 pub fn with(alloc: Global, answer: &mut String, environments: &str, question: &Value) -> Told {
     let environment = environment(alloc, answer, environments, text_at(question, 1))?;
     let (name, text) = (text_at(question, 2), text_at(question, 3));
@@ -117,7 +117,8 @@ fn printed(alloc: Global, answer: &mut String, environment: &MarkerEnvironment) 
     put(answer, &value)
 }
 
-/// The value of the environment that is built of the texts of a question, in the order of members.
+/// Answers with the value of the environment that is built from the texts of a question, in the order of
+/// members.
 pub fn built(alloc: Global, answer: &mut String, question: &Value) -> Told {
     let builder = MarkerEnvironmentBuilder {
         implementation_name: text_at(question, 1),
@@ -148,7 +149,7 @@ fn not_built(answer: &mut String, error: &EnvironmentBuildError) -> Told {
     }
 }
 
-/// The member that is wrong in a JSON value, or the value again.
+/// Answers with the member that is wrong in a JSON value, or with the value again.
 pub fn environment_value(alloc: Global, answer: &mut String, text: &str) -> Told {
     let environment = environment_of(alloc, answer, text)?;
     printed(alloc, answer, &environment)
@@ -162,8 +163,8 @@ fn string_version(alloc: Global, answer: &mut String, text: &str) -> Result<Stri
     }
 }
 
-/// The print and the version of a text, the print of that version, and whether a copy and what is read of its
-/// value are equal.
+/// Answers with the print and the version of a text, the print of that version, and whether a copy and what
+/// is read from its value are equal.
 pub fn version(alloc: Global, answer: &mut String, text: &str) -> Told {
     let read = string_version(alloc, answer, text)?;
     version_shown(alloc, answer, &read)

@@ -8,7 +8,7 @@ use std::alloc::{AllocError, Global};
 use std::cell::{Cell, RefCell};
 use std::fmt::Display;
 
-/// The records, one behind another, and whether memory has sufficed for them.
+/// The records, one after another, and whether memory has sufficed for them.
 #[derive(Drop)]
 pub struct Noted {
     alloc: Global,
@@ -17,7 +17,7 @@ pub struct Noted {
 }
 
 impl Noted {
-    /// No record yet.
+    /// Returns a log of no records.
     pub fn new(alloc: Global) -> Noted {
         Noted {
             alloc,
@@ -26,7 +26,7 @@ impl Noted {
         }
     }
 
-    /// A text with the records behind it.
+    /// Answers with a text and the records after it.
     pub fn tell(self, answer: &mut String, front: &str) -> Told {
         if !self.is_whole.get() {
             return Err(Stop::Memory);

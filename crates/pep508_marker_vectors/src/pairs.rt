@@ -1,4 +1,4 @@
-//! What is asked of two markers.
+//! Answers on two markers.
 
 use crate::reading::read;
 use crate::stop::{Stop, Told, truth};
@@ -8,7 +8,7 @@ use pep508_tree::{Interner, MarkerTree};
 use pep508_tree_laws::earlier_trees_keep;
 use std::alloc::Global;
 
-/// Whether two markers have one tree, are disjoint, or the one's tree is the other's negation.
+/// Answers whether two markers have one tree, are disjoint, or the one's tree is the other's negation.
 pub fn pair(
     alloc: Global,
     answer: &mut String,
@@ -28,7 +28,7 @@ pub fn pair(
     truth(answer, holds)
 }
 
-/// Whether two markers, each read by an interner of its own, have one key.
+/// Answers whether two markers, each read by an interner of its own, have one key.
 pub fn one_key(
     alloc: Global,
     answer: &mut String,
@@ -42,7 +42,7 @@ pub fn one_key(
     truth(answer, key.as_slice() == other_key.as_slice())
 }
 
-/// The key of a marker.
+/// Returns the key of a marker.
 fn key_of(
     alloc: Global,
     answer: &mut String,

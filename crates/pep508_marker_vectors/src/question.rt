@@ -1,15 +1,15 @@
-//! What stands in a question.
+//! The parts of a question.
 
 use pep508_name::{ExtraName, InvalidNameError};
 use serde_json::Value;
 use std::alloc::{AllocError, Global};
 
-/// The text at a place of a list, empty where there is none.
+/// Returns the text at a place of a list; empty where there is none.
 pub fn text_at(question: &Value, place: usize) -> &str {
     question.get(place).and_then(Value::as_str).unwrap_or("")
 }
 
-/// The extras whose names stand from a place on; a text that is no name is left out.
+/// Returns the extras whose names are at a place and after it; an invalid name is left out.
 pub fn extras_from(
     alloc: Global,
     question: &Value,

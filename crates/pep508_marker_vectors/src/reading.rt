@@ -1,4 +1,4 @@
-//! What is read of markers.
+//! Answers on reading markers.
 
 ghost use Rattle.std.specs.Prelude.{IfOk};
 ghost use Rattle.pep508_tree.specs.Meaning.{IsTree, Extends};
@@ -33,7 +33,7 @@ pub fn read(
     }
 }
 
-/// The place, the length and the message of a refusal.
+/// Answers with the place, the length and the message of a refusal.
 pub fn refused(answer: &mut String, error: &Pep508Error<VerbatimUrl>) -> Stop {
     let message = error.message();
     if let Pep508ErrorSource::Memory = message {
@@ -43,7 +43,7 @@ pub fn refused(answer: &mut String, error: &Pep508Error<VerbatimUrl>) -> Stop {
     stop_behind(write!(answer, "refused at {start}, {len}: {message}"))
 }
 
-/// Whether a marker always or never holds, with the warnings of its reading.
+/// Answers whether a marker always or never holds, with the warnings of its reading.
 pub fn marker(alloc: Global, answer: &mut String, interner: &mut Interner, text: &str) -> Told {
     let mut warnings = Warnings::new(alloc);
     match MarkerTree::parse_reporter(alloc, interner, text, &mut warnings) {
@@ -52,7 +52,7 @@ pub fn marker(alloc: Global, answer: &mut String, interner: &mut Interner, text:
     }
 }
 
-/// A constant's name.
+/// Returns a constant's name.
 fn name_of(tree: MarkerTree) -> &'static str {
     if tree.is_true() {
         "TRUE"
@@ -63,7 +63,7 @@ fn name_of(tree: MarkerTree) -> &'static str {
     }
 }
 
-/// Whether a marker is one tree with another where warnings of its reading are dropped.
+/// Answers whether a marker is one tree with another where warnings of its reading are dropped.
 pub fn unwarned(
     alloc: Global,
     answer: &mut String,
@@ -87,7 +87,7 @@ fn tree_of(
     }
 }
 
-/// The print of a comparison, with the warnings of its reading.
+/// Answers with the print of a comparison, and the warnings of its reading.
 pub fn expression(alloc: Global, answer: &mut String, text: &str) -> Told {
     let mut warnings = Warnings::new(alloc);
     match parse_expression_reporter(alloc, text, &mut warnings) {
@@ -96,7 +96,7 @@ pub fn expression(alloc: Global, answer: &mut String, text: &str) -> Told {
     }
 }
 
-/// The print of a comparison where warnings of its reading are dropped.
+/// Answers with the print of a comparison where warnings of its reading are dropped.
 pub fn unwarned_expression(alloc: Global, answer: &mut String, text: &str) -> Told {
     match parse_expression(alloc, text) {
         Ok(read) => print_before(answer, &read, ""),

@@ -1,4 +1,4 @@
-//! What is asked of trees with their interners: prints, JSON values, contents and order.
+//! Answers on trees with their interners: prints, JSON values, contents and order.
 
 ghost use Rattle.pep508_tree.specs.Meaning.{IsTree};
 
@@ -14,13 +14,13 @@ use std::alloc::Global;
 use std::cmp::Ordering;
 use std::fmt::Write;
 
-/// The print of a marker's tree.
+/// Answers with the print of a marker's tree.
 pub fn print(alloc: Global, answer: &mut String, interner: &mut Interner, text: &str) -> Told {
     let tree = read(alloc, answer, interner, text)?;
     put(answer, &MarkerTreeRef::new(alloc, interner, tree))
 }
 
-/// The text of a marker's tree, `no text` where it has none.
+/// Answers with the text of a marker's tree, `no text` where it has none.
 pub fn print_in_part(
     alloc: Global,
     answer: &mut String,
@@ -32,13 +32,14 @@ pub fn print_in_part(
     put_or(answer, found, "no text")
 }
 
-/// The JSON value of a marker's tree, and `none` where it has none.
+/// Answers with the JSON value of a marker's tree, and `none` where it has none.
 pub fn value(alloc: Global, answer: &mut String, interner: &mut Interner, text: &str) -> Told {
     let tree = read(alloc, answer, interner, text)?;
     put_or(answer, ser::to_value(alloc, tree, interner), "none")
 }
 
-/// Whether the marker of a JSON value is one tree with another; `shape` of a value that is no text.
+/// Answers whether the marker of a JSON value is one tree with another; `shape` for a value that is not a
+/// text.
 pub fn from_value(
     alloc: Global,
     answer: &mut String,
@@ -57,7 +58,8 @@ pub fn from_value(
     }
 }
 
-/// Whether a marker's tree has contents, whether it is empty, and whether its contents lead back to it.
+/// Answers whether a marker's tree has contents, whether it is empty, and whether its contents lead back to
+/// it.
 pub fn contents(alloc: Global, answer: &mut String, interner: &mut Interner, text: &str) -> Told {
     let tree = read(alloc, answer, interner, text)?;
     let contents = tree.contents(interner);
@@ -67,7 +69,7 @@ pub fn contents(alloc: Global, answer: &mut String, interner: &mut Interner, tex
     answered(write!(answer, "{has_contents} {is_empty} {leads_back}"))
 }
 
-/// Whether contents are those of a tree, or none.
+/// Returns whether contents are those of a tree, or `None`.
 fn are_of(contents: Option<MarkerTreeContents>, tree: MarkerTree) -> bool {
     match contents {
         Some(contents) => *contents.as_tree() == tree && contents.into_tree() == tree,
@@ -75,7 +77,7 @@ fn are_of(contents: Option<MarkerTreeContents>, tree: MarkerTree) -> bool {
     }
 }
 
-/// Which of two markers comes first, where each is read by an interner of its own.
+/// Answers which of two markers comes first, where each is read by an interner of its own.
 pub fn order(
     alloc: Global,
     answer: &mut String,

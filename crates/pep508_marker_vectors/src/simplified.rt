@@ -1,4 +1,4 @@
-//! What is asked of markers that are simplified.
+//! Answers on markers that are simplified.
 
 ghost use Rattle.pep508_tree.specs.Meaning.{IsTree, Extends};
 
@@ -12,7 +12,7 @@ use pep508_tree_laws::earlier_trees_keep;
 use std::alloc::{AllocError, Global};
 use std::ops::Bound;
 
-/// The version of a text, which has to be one.
+/// Returns the version of a text, which has to be one.
 fn version(alloc: Global, answer: &mut String, text: &str) -> Result<Version, Stop> {
     match Version::from_str(alloc, text) {
         Ok(version) => Ok(version),
@@ -21,7 +21,7 @@ fn version(alloc: Global, answer: &mut String, text: &str) -> Result<Version, St
     }
 }
 
-/// A bound, which a bracket includes in the range and a parenthesis leaves out.
+/// Returns a bound, which a bracket includes in the range and a parenthesis excludes.
 fn bound(alloc: Global, answer: &mut String, text: &str) -> Result<Bound<Version>, Stop> {
     if let Some(text) = text.strip_prefix('[') {
         return Ok(Bound::Included(version(alloc, answer, text)?));
@@ -32,7 +32,7 @@ fn bound(alloc: Global, answer: &mut String, text: &str) -> Result<Bound<Version
     Ok(Bound::Unbounded)
 }
 
-/// The tree that is asked for.
+/// Returns the tree that the question is about.
 fn made(
     alloc: Global,
     interner: &mut Interner,
@@ -51,8 +51,8 @@ fn made(
     }
 }
 
-/// Whether a marker, simplified to a range of versions of Python or held within one, is one tree with
-/// another.
+/// Answers whether a marker, simplified to a range of versions of Python or restricted to one, is one tree
+/// with another.
 pub fn within(
     alloc: Global,
     answer: &mut String,
@@ -81,7 +81,8 @@ fn within_bounds(
     truth(answer, tree == other)
 }
 
-/// Whether a marker is one tree with another once extras are taken as present, listed or by a predicate.
+/// Answers whether a marker is one tree with another once extras are assumed to be present, listed or by a
+/// predicate.
 pub fn present(
     alloc: Global,
     answer: &mut String,

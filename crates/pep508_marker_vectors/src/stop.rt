@@ -1,9 +1,9 @@
-//! Why an answer ends before its question is answered, and what is written of answers.
+//! Why an answer ends before its question is answered, and writers of answers.
 
 use std::alloc::AllocError;
 use std::fmt::{Display, Write};
 
-/// Want of memory, or an answer that is told already: how a text is refused, or what is wrong with the
+/// Lack of memory, or an answer that is written already: how a text is refused, or what is wrong with the
 /// question.
 #[derive(Clone, Copy)]
 pub enum Stop {
@@ -20,7 +20,7 @@ impl From<AllocError> for Stop {
 /// Whether a question was answered to its end.
 pub type Told = Result<(), Stop>;
 
-/// The stop behind what was written, if there was memory for it.
+/// Returns the stop after an answer was written, if there was memory for it.
 pub fn stop_behind(written: Result<(), AllocError>) -> Stop {
     match written {
         Ok(()) => Stop::Told,
@@ -28,7 +28,7 @@ pub fn stop_behind(written: Result<(), AllocError>) -> Stop {
     }
 }
 
-/// What was written, if there was memory for it.
+/// Returns whether an answer was written, if there was memory for it.
 pub fn answered(written: Result<(), AllocError>) -> Told {
     match written {
         Ok(()) => Ok(()),
@@ -36,22 +36,22 @@ pub fn answered(written: Result<(), AllocError>) -> Told {
     }
 }
 
-/// An answer of a few words.
+/// Answers with a few words.
 pub fn said(answer: &mut String, words: &str) -> Told {
     answered(answer.push_str(words))
 }
 
-/// The answer yes or no.
+/// Answers with yes or no.
 pub fn truth(answer: &mut String, holds: bool) -> Told {
     said(answer, if holds { "true" } else { "false" })
 }
 
-/// The print of a value.
+/// Answers with the print of a value.
 pub fn put<T: Display>(answer: &mut String, value: &T) -> Told {
     answered(write!(answer, "{value}"))
 }
 
-/// The print of a value that may be absent, or these words.
+/// Answers with the print of a value that may be absent, or with these words.
 pub fn put_or<T: Display + Drop>(
     answer: &mut String,
     found: Result<Option<T>, AllocError>,
@@ -64,7 +64,7 @@ pub fn put_or<T: Display + Drop>(
     }
 }
 
-/// Two texts, the one behind the other.
+/// Answers with two texts, one after the other.
 pub fn both(answer: &mut String, front: &str, back: &str) -> Told {
     answered(write!(answer, "{front}{back}"))
 }

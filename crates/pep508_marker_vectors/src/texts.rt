@@ -1,4 +1,4 @@
-//! What is asked of the texts and clauses of markers.
+//! Answers on the texts and clauses of markers.
 
 ghost use Rattle.pep508_tree.specs.Meaning.{IsTree};
 
@@ -10,7 +10,7 @@ use pep508_tree::{Interner, MarkerTree};
 use std::alloc::{AllocError, Global};
 use std::fmt::Write;
 
-/// The text of a marker's tree, read where another marker was read before.
+/// Answers with the text of a marker's tree, read where another marker was read before.
 pub fn text_after(
     alloc: Global,
     answer: &mut String,
@@ -22,26 +22,26 @@ pub fn text_after(
     text_in(alloc, answer, interner, text)
 }
 
-/// The text of a marker's tree.
+/// Answers with the text of a marker's tree.
 pub fn text_in(alloc: Global, answer: &mut String, interner: &mut Interner, text: &str) -> Told {
     let tree = read(alloc, answer, interner, text)?;
     text_of(alloc, answer, interner, tree)
 }
 
-/// The text of a tree, `no text` where it has none.
+/// Answers with the text of a tree, `no text` where it has none.
 pub fn text_of(alloc: Global, answer: &mut String, interner: &Interner, tree: MarkerTree) -> Told
     requires { IsTree interner.now.nodes tree }
 {
     put_or(answer, tree.try_to_string(alloc, interner), "no text")
 }
 
-/// The extra that all clauses of a marker ask for.
+/// Answers with the extra that all clauses of a marker require.
 pub fn top_extra(alloc: Global, answer: &mut String, interner: &mut Interner, text: &str) -> Told {
     let tree = read(alloc, answer, interner, text)?;
     put_or(answer, tree.top_level_extra(alloc, interner), "none")
 }
 
-/// The clauses of a marker, each in brackets.
+/// Answers with the clauses of a marker, each in brackets.
 pub fn clauses(alloc: Global, answer: &mut String, interner: &mut Interner, text: &str) -> Told {
     let tree = read(alloc, answer, interner, text)?;
     let clauses = tree.to_dnf(alloc, interner)?;

@@ -1,4 +1,4 @@
-//! What a marker's tree asks first, and which subtree stands for each answer.
+//! Answers on the first test of a marker's tree, and the subtree for each result.
 
 use crate::reading::read;
 use crate::stop::{Told, answered, said};
@@ -11,7 +11,7 @@ use std::alloc::{AllocError, Global};
 use std::fmt::{Display, Write};
 use std::ops::Bound;
 
-/// The root of a marker's tree.
+/// Answers with the root of a marker's tree.
 pub fn view(alloc: Global, answer: &mut String, interner: &mut Interner, text: &str) -> Told {
     let tree = read(alloc, answer, interner, text)?;
     match tree.kind(interner) {
@@ -45,7 +45,7 @@ fn extra(answer: &mut String, node: &ExtraMarkerTree) -> Result<(), AllocError> 
     set_or_not(answer, node.edge(true), node.edge(false))
 }
 
-/// The subtrees where what is asked for is so, and where not.
+/// Appends the subtrees where the test succeeds, and where it does not.
 fn set_or_not(answer: &mut String, set: MarkerTree, unset: MarkerTree) -> Result<(), AllocError> {
     let (set, unset) = (subtree(set), subtree(unset));
     write!(answer, "{{true {set}, false {unset}}}")
@@ -85,7 +85,7 @@ fn texts(answer: &mut String, node: &StringMarkerTree) -> Result<(), AllocError>
     answer.push('}')
 }
 
-/// The bounds of an edge with their brackets, each between these quotes, and its subtree.
+/// Appends the bounds of an edge with their brackets, each between these quotes, and its subtree.
 fn push_edge<B: Display>(
     answer: &mut String,
     edge: &Edge<B>,

@@ -1,17 +1,17 @@
-//! Warnings as they are told in an answer.
+//! Warnings as an answer shows them.
 
 use pep508_marker::{MarkerWarningKind, Reporter};
 use std::alloc::{AllocError, Global};
 use std::fmt::Write;
 
-/// Writes warnings down, one behind another.
+/// A reporter that writes warnings down, one after another.
 #[derive(Drop)]
 pub struct Warnings {
     pub text: String,
 }
 
 impl Warnings {
-    /// No warning yet.
+    /// Returns a reporter of no warnings yet.
     pub fn new(alloc: Global) -> Warnings {
         Warnings {
             text: String::new(alloc),
@@ -27,7 +27,7 @@ impl Reporter for Warnings {
     }
 }
 
-/// Writes a warning behind a text.
+/// Appends a warning to a text.
 pub fn push_warning(
     text: &mut String,
     kind: MarkerWarningKind,

@@ -23,11 +23,11 @@ is_alphanumeric byte = is_ascii_alphanumeric byte
 abbrev pub is_separator : ℕ → Bool
 is_separator byte = byte == 45 || byte == 95 || byte == 46
 
--- whether a byte may stand in a name (PEP 508, "Names")
+-- whether a byte may be in a name (PEP 508, "Names")
 abbrev pub is_name_byte : ℕ → Bool
 is_name_byte byte = is_alphanumeric byte || is_separator byte
 
--- whether a letter or digit stands at a place of a text
+-- whether a letter or digit is at a place of a text
 abbrev pub is_alphanumeric_at : List ℕ → ℕ → Bool
 is_alphanumeric_at text place = option_map_or is_alphanumeric (slice_get text place) false
 
@@ -51,20 +51,20 @@ name_parts text = filter is_part (slice_split is_separator text)
 unfoldable pub normal_name : List ℕ → List ℕ
 normal_name text = map to_ascii_lowercase (join_with_byte 45 (name_parts text))
 
--- the normal name that a text stands for, if it is a name
+-- the normal form of the name that a text is, if it is one
 unfoldable pub name_of : List ℕ → Option (List ℕ)
 name_of text = if is_name text then Some (normal_name text) else None
 
--- the normal name that a text stands for, or the text itself where it is no name
+-- the normal form of the name that a text is, or the text itself where it is not a name
 abbrev pub name_reading : List ℕ → Result (List ℕ) (List ℕ)
 name_reading text = ok_or (name_of text) text
 
--- the text that an error refuses, if it is not want of memory
+-- the text that an error reports, unless it is lack of memory
 abbrev pub told_name : InvalidNameError → Option (List ℕ)
 told_name Memory = None
 told_name (InvalidName text) = Some (string_bytes text)
 
--- the text that an error refuses, empty for want of memory
+-- the text that an error reports, empty for lack of memory
 abbrev pub refused_text : InvalidNameError → List ℕ
 refused_text error = unwrap_or (told_name error) []
 
@@ -92,6 +92,6 @@ name_eq = bytes_eq
 abbrev pub name_cmp : List ℕ → List ℕ → Ordering
 name_cmp = slice_cmp nat_cmp
 
--- what a name feeds a hash: its bytes, and a byte that ends them
+-- the input to a hash of a name: its bytes, and a byte that ends them
 abbrev pub fed_name : List ℕ → List (List ℕ)
 fed_name name = fed.str name

@@ -39,7 +39,8 @@ origin_value (Project path name) =
     object (member (codes "project") (array (item (string path) (item (string name) no_items))) no_members)
 origin_value Workspace = string (codes "workspace")
 
--- why a JSON value is no origin: it has none of the three forms, or a project's name, this text, is no name
+-- why a JSON value is not an origin: it has none of the three forms, or a project's name, this text, is not
+-- a name
 pub data OriginFault : Type 0 where
   NoOrigin : OriginFault
   NoName : List ℕ → OriginFault
@@ -91,7 +92,7 @@ member_reading (Some sole) =
 abbrev pub text_reading : List ℕ → Result Origin OriginFault
 text_reading text = if bytes_eq text (codes "workspace") then Ok Workspace else Err NoOrigin
 
--- the origin that a value is: a value has one of the three forms, and nothing besides, or it is none
+-- the origin that a value is: one in just one of the three forms; another is not an origin
 abbrev pub origin_reading : Data → Result Origin OriginFault
 origin_reading null = Err NoOrigin
 origin_reading (boolean truth) = Err NoOrigin
@@ -100,7 +101,7 @@ origin_reading (string text) = text_reading text
 origin_reading (array items) = Err NoOrigin
 origin_reading (object members) = member_reading (sole_member members)
 
--- what an error says of a value, if it is not want of memory
+-- the fault that an error reports of a value, unless it is lack of memory
 abbrev pub told_origin : FromValueError InvalidNameError → Option OriginFault
 told_origin Shape = Some NoOrigin
 told_origin (Text Memory) = None

@@ -1,8 +1,12 @@
+#![tactic(auto)]
 //! Names of Python packages and of their extras, as PEP 508 has them, in the normal form of PEP 503.
 //!
-//! Contracts see a `PackageName` and an `ExtraName` as the list of the normal name's bytes, so that
-//! `FrIeNdLy-._.-bArD` and `friendly-bard` are one name.
-#![tactic(auto)]
+//! The model of a `PackageName` and of an `ExtraName` in contracts is the list of the normal name's bytes,
+//! so that `FrIeNdLy-._.-bArD` and `friendly-bard` are one name.
+//!
+//! Rejecting a name never fails for lack of memory, but for the copy of the text that its error keeps.
+//! Where even that is refused, a candidate list asks `is_name`, which allocates nothing: a candidate line
+//! with a bad name is refused as such whatever memory there is.
 
 ghost use Rattle.std.specs.Prelude.{◌≡◌, Some};
 ghost use Rattle.pep508_name.specs.Name.{refused_text, error_text};
@@ -23,12 +27,12 @@ pub use normal::is_name;
 pub use origin::RequirementOrigin;
 pub use package::PackageName;
 
-/// Why a text is not taken for a name.
+/// Why a text is not a name.
 #[derive(Debug, PartialEq, Eq, Drop)]
 pub enum InvalidNameError {
     /// Memory ran out while reading.
     Memory,
-    /// The text, as it was given, is no name.
+    /// The text, as it was given, is not a name.
     InvalidName(String),
 }
 
@@ -36,7 +40,7 @@ impl InvalidNameError {
     ghost use Rattle.std.specs.Prelude.{IfOk};
     ghost use Rattle.pep508_name.specs.Name.{refused_text, told_name};
 
-    /// A copy, in memory of its own; that of `Memory` wants none.
+    /// Returns a copy, in memory of its own; a copy of `Memory` takes none.
     pub fn try_clone(&self, alloc: Global) -> Result<Self, AllocError>
         ensures { IfOk result (λ copy. told_name copy ≡ told_name self.now) }
     {
@@ -48,7 +52,7 @@ impl InvalidNameError {
         }
     }
 
-    /// The text that is no name, as it was given; empty where memory ran out.
+    /// Returns the text that is not a name, as it was given; empty where memory ran out.
     pub fn as_str(&self) -> &str
         ensures { result.now ≡ refused_text self.now }
     {
@@ -77,7 +81,9 @@ impl fmt::Display for InvalidNameError {
             InvalidNameError::Memory => write!(f, "out of memory"),
             InvalidNameError::InvalidName(text) => write!(
                 f,
-                "Not a valid package or extra name: \"{text}\". Names must start and end with a letter or digit and may only contain -, _, ., and alphanumeric characters."
+                "Not a valid package or extra name: \"{text}\". \
+                 Names must start and end with a letter or digit and may only contain \
+                 -, _, ., and alphanumeric characters."
             ),
         }
     }

@@ -1,4 +1,10 @@
-//! Names in normal form: what the names of packages and of extras have in common.
+//! Names in normal form: the common part of package names and extra names.
+//!
+//! `PackageName` and `ExtraName` are thin wrappers of `NormalName`, which has the model, order and hash
+//! written out; the two derive theirs, and a law states that they compare and hash as their bytes. The text
+//! is always a new one, also in `PackageName::new`, which is given an owned text: there is one way to read
+//! a name. A name that is normal already is recognised in one pass and copied whole; another is tested
+//! first and then written byte by byte.
 
 ghost use Rattle.std.specs.Prelude.{◌≡◌, ◌<◌, IsTrue, IfOk, IfSome, Some, Err, option_copied, false, length};
 ghost use Rattle.std.specs.Prelude.{map, encode_utf8_all, refl};
@@ -24,7 +30,7 @@ use std::fmt;
 use std::hash::{Hash, Hasher};
 use std::marker::Model;
 
-/// A name in normal form. Compares and hashes by its bytes, and prints as it.
+/// A name in normal form. Compares and hashes by its bytes, and prints as they are.
 #[derive(Drop)]
 pub(crate) struct NormalName {
     text: String,
@@ -43,7 +49,7 @@ impl Model for NormalName {
 }
 
 impl NormalName {
-    /// The name that a text stands for.
+    /// Reads a name and returns its normal form.
     #[tactic(auto, using(crate::proofs::Again::normal_form_again), unfolding(crate::specs::Name::name_of))]
     pub(crate) fn from_str(alloc: Global, text: &str) -> Result<Self, InvalidNameError>
         ensures answered { Answers (λ name. name) told_name result (name_reading text.now) }
@@ -62,7 +68,7 @@ impl NormalName {
         })
     }
 
-    /// The name that a text stands for; the error takes the text.
+    /// Reads a name and returns its normal form; the error takes the text over.
     #[tactic(auto, using(crate::proofs::Again::normal_form_again), unfolding(crate::specs::Name::name_of))]
     pub(crate) fn new(alloc: Global, text: String) -> Result<Self, InvalidNameError>
         ensures answered { Answers (λ name. name) told_name result (name_reading (string_bytes text)) }
@@ -156,7 +162,7 @@ impl Hash for NormalName {
     }
 }
 
-/// Whether a text is a name (PEP 508, "Names"), with no white space around it.
+/// Returns whether a text is a name (PEP 508, "Names"), with no white space around it.
 ///
 /// One pass over the text, with no allocation.
 pub fn is_name(text: &str) -> bool
@@ -172,7 +178,7 @@ fn are_name_bytes(bytes: &[u8]) -> bool
     bytes.iter().all(|byte| is_name_byte(*byte))
 }
 
-/// Whether there is a byte, and it is an ASCII letter or digit.
+/// Returns whether there is a byte, and it is an ASCII letter or digit.
 fn is_alphanumeric(byte: Option<&u8>) -> bool
     ensures { result ≡ option_map_or is_alphanumeric (option_copied byte.entry) false }
 {
@@ -188,14 +194,14 @@ fn is_name_byte(byte: u8) -> bool
     byte.is_ascii_alphanumeric() || is_separator(byte)
 }
 
-/// Whether a byte is `-`, `_` or `.`.
+/// Returns whether a byte is `-`, `_` or `.`.
 fn is_separator(byte: u8) -> bool
     ensures { result ≡ is_separator byte }
 {
     matches!(byte, b'-' | b'_' | b'.')
 }
 
-/// The error for a text that is no name.
+/// Returns the error for a text that is not a name.
 fn invalid(alloc: Global, text: &str) -> InvalidNameError
     ensures told { IfSome (told_name result) (λ given. given ≡ text.now) }
     ensures grown { result ≡ InvalidNameError.Memory → 0 < length text.now }
@@ -209,7 +215,7 @@ fn invalid(alloc: Global, text: &str) -> InvalidNameError
     }
 }
 
-/// The normal form of a name, in one allocation of the name's length.
+/// Returns the normal form of a name, in one allocation of the name's length.
 fn normalized(alloc: Global, text: &str) -> Result<String, AllocError>
     requires { IsTrue (is_name text.now) }
     ensures { IfOk result (λ name. string_bytes name ≡ normal_name text.now) }
@@ -230,7 +236,7 @@ fn normalized(alloc: Global, text: &str) -> Result<String, AllocError>
     Ok(name)
 }
 
-/// A text with `_` for each `-`.
+/// Returns the text with `_` for each `-`.
 pub(crate) fn escaped(alloc: Global, text: &str) -> Result<String, AllocError>
     ensures { IfOk result (λ name.
         string_bytes name ≡ encode_utf8_all (map dist_info_byte (chars text.now))) }

@@ -1,4 +1,7 @@
 //! Where requirements come from.
+//!
+//! The object of an origin has one member; with another one it is no origin. Origins are in this crate
+//! because names are all that they need.
 
 ghost use Rattle.std.specs.Prelude.{◌≡◌, IfOk, Option, option_map, option_and_then, Ok, string_bytes};
 ghost use Rattle.read_outcome.specs.Outcome.{Answers};
@@ -27,7 +30,7 @@ impl RequirementOrigin {
     ghost use Rattle.pep508_name.specs.Origin.{origin_of, origin_path, origin_value, origin_reading};
     ghost use Rattle.pep508_name.specs.Origin.{told_origin};
 
-    /// The path; `(workspace)` for a workspace.
+    /// Returns the path; `(workspace)` for a workspace.
     pub fn path(&self) -> &str
         ensures { result.now ≡ origin_path (origin_of self.now) }
     {
@@ -38,7 +41,7 @@ impl RequirementOrigin {
         }
     }
 
-    /// A copy, in memory of its own.
+    /// Returns a copy, in memory of its own.
     pub fn try_clone(&self, alloc: Global) -> Result<Self, AllocError>
         ensures { IfOk result (λ copy. origin_of copy ≡ origin_of self.now) }
     {
@@ -55,7 +58,7 @@ impl RequirementOrigin {
         }
     }
 
-    /// The origin as a JSON value: `{"file": path}`, `{"project": [path, name]}` or `"workspace"`.
+    /// Returns the origin as a JSON value: `{"file": path}`, `{"project": [path, name]}` or `"workspace"`.
     pub fn to_value(&self, alloc: Global) -> Result<Value, AllocError>
         ensures { IfOk result (λ value. view value ≡ origin_value (origin_of self.now)) }
     {
@@ -70,8 +73,11 @@ impl RequirementOrigin {
         }
     }
 
-    /// The origin that a JSON value is, in just the forms of `to_value`. Another value, and an object with
-    /// another or a further member, is refused as `Shape`, a project's name that is none as the text's fault.
+    /// Reads an origin from a JSON value, in just the forms of `to_value`.
+    ///
+    /// # Errors
+    /// `Shape` for another value, and for an object with another or a further member; `Text` where a
+    /// project's name is not a name, or memory ran out.
     pub fn from_value(
         alloc: Global,
         value: &Value,
@@ -90,7 +96,7 @@ impl RequirementOrigin {
     }
 }
 
-/// The name and the value of an object's only member.
+/// Returns the name and the value of an object's only member.
 fn sole_member(value: &Value) -> Option<(&str, &Value)>
     ensures { option_map (λ member. (member.0.now, view member.1.now)) result
         ≡ option_and_then sole_member (as_object (view value.entry.now)) }
@@ -103,7 +109,7 @@ fn sole_member(value: &Value) -> Option<(&str, &Value)>
     Some((name.as_str(), member))
 }
 
-/// The texts of an array of two texts.
+/// Returns the texts of an array of two texts.
 fn two_texts(value: &Value) -> Option<(&str, &str)>
     ensures { option_map (λ texts. (texts.0.now, texts.1.now)) result
         ≡ option_and_then two_texts (as_array (view value.entry.now)) }

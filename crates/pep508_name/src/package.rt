@@ -36,10 +36,12 @@ impl Model for PackageName {
 }
 
 impl PackageName {
-    /// The name that a text stands for (PEP 508, "Names"), with no white space around it.
+    /// Reads a name (PEP 508, "Names"), with no white space around it, and returns it in normal form.
     ///
-    /// One pass over a text in normal form, at most three over another, and one allocation of its
-    /// length. A text that is no name is refused with a copy of it.
+    /// One pass over a text in normal form, at most three over another, and one allocation of its length.
+    ///
+    /// # Errors
+    /// `InvalidName` with a copy of the text where it is not a name; `Memory` where memory ran out.
     pub fn from_str(alloc: Global, text: &str) -> Result<Self, InvalidNameError>
         ensures answered { Answers (λ name. name) told_name result (name_reading text.now) }
         ensures grown { result ≡ Err InvalidNameError.Memory → 0 < length text.now }
@@ -47,8 +49,11 @@ impl PackageName {
         Ok(PackageName(NormalName::from_str(alloc, text)?))
     }
 
-    /// The name that a text stands for, as `from_str` reads it. A text that is no name is refused and given
-    /// back in the error, so only a name wants memory.
+    /// Reads a name as `from_str` does, and takes the text over.
+    ///
+    /// # Errors
+    /// `InvalidName` with the text itself where it is not a name, which takes no memory; `Memory` where
+    /// memory for a name ran out.
     pub fn new(alloc: Global, text: String) -> Result<Self, InvalidNameError>
         ensures answered { Answers (λ name. name) told_name result (name_reading (string_bytes text)) }
         ensures grown { result ≡ Err InvalidNameError.Memory → IsTrue (is_name (string_bytes text)) }
@@ -56,7 +61,7 @@ impl PackageName {
         Ok(PackageName(NormalName::new(alloc, text)?))
     }
 
-    /// The normal form.
+    /// Returns the normal form.
     pub fn as_str(&self) -> &str
         ensures text { result.now ≡ self.now }
         ensures normal { name_of self.now ≡ Some self.now }
@@ -64,15 +69,15 @@ impl PackageName {
         self.0.as_str()
     }
 
-    /// A copy, in memory of its own.
+    /// Returns a copy, in memory of its own.
     pub fn try_clone(&self, alloc: Global) -> Result<Self, AllocError>
         ensures { IfOk result (λ copy. copy ≡ self.now) }
     {
         Ok(PackageName(self.0.try_clone(alloc)?))
     }
 
-    /// The name as the folder of an installed package has it, with `_` for each `-` (the specification of
-    /// recorded installs). Lent, and so without memory, where there is no `-`.
+    /// Returns the name as an installed package's folder is named, with `_` for each `-` (the specification
+    /// of recorded installs). Borrowed, and so without memory, where there is no `-`.
     #[tactic(auto, using(crate::proofs::Escaped::escaped_name, crate::proofs::Escaped::nothing_escaped))]
     pub fn as_dist_info_name(&self, alloc: Global) -> Result<CowStr<'_>, AllocError>
         ensures text { IfOk result (λ name. cow_str_bytes name ≡ dist_info_name self.now) }
@@ -86,14 +91,17 @@ impl PackageName {
         Ok(CowStr::Owned(escaped(alloc, name)?))
     }
 
-    /// The name as a JSON text.
+    /// Returns the name as a JSON text.
     pub fn to_value(&self, alloc: Global) -> Result<Value, AllocError>
         ensures { IfOk result (λ value. find.as_str (view value) ≡ Some self.now) }
     {
         Ok(Value::String(String::from_str(alloc, self.as_str())?))
     }
 
-    /// Reads a JSON text as `from_str` does; another value is refused as `Shape`.
+    /// Reads a name from a JSON text as `from_str` does.
+    ///
+    /// # Errors
+    /// `Shape` where the value is not a text; `Text` with the error of `from_str`, lack of memory too.
     pub fn from_value(
         alloc: Global,
         value: &Value,

@@ -4,12 +4,12 @@ ghost use Rattle.std.specs.Prelude.{◌≡◌, ◌||◌, IsTrue};
 ghost use Rattle.std.specs.Char.{is_ascii_digit, is_ascii_lowercase};
 ghost use Rattle.pep508_name.specs.Name.{is_name, normal_name};
 
-/// Whether a text is a name and plainly its own normal form: small letters and digits, with a `-`
-/// between some. One pass over the text, with no allocation.
+/// Returns whether a text is a name and plainly its own normal form: lower-case letters and digits, with a
+/// single `-` between some. One pass over the text, with no allocation.
 pub(crate) fn is_normal(text: &str) -> bool
     ensures { IsTrue result → IsTrue (is_name text.now) × (normal_name text.now ≡ text.now) }
 {
-    // A `-` may stand neither at the front nor behind another one.
+    // A `-` is allowed neither at the front nor after another one.
     let mut may_end = false;
     for byte in text.as_bytes() {
         if *byte == b'-' {
@@ -27,7 +27,7 @@ pub(crate) fn is_normal(text: &str) -> bool
     may_end
 }
 
-/// Whether a byte is a small letter or a digit.
+/// Returns whether a byte is a lower-case letter or a digit.
 fn is_small(byte: u8) -> bool
     ensures { result ≡ (is_ascii_lowercase byte || is_ascii_digit byte) }
 {

@@ -18,7 +18,7 @@ abbrev pub asks_any : (Question → Bool) → Diagram Question → Bool
 asks_any test (Leaf b) = false
 asks_any test (Test q low high) = test q || asks_any test low || asks_any test high
 
--- the value that a boundary stands at passes the test
+-- the value of an endpoint passes the test
 abbrev pub stands_at : {T : Type 0} → (T → Bool) → Boundary T → Bool
 stands_at test (At value) = test value
 stands_at test (JustAbove value) = test value
@@ -65,13 +65,13 @@ is_other_version version =
     || has_local version || is_some version.least || is_some version.most
     || list_any (λ number. not (nat_lt number (2 ^ 64))) version.release
 
--- the question is whether a version lies below a boundary that stands at another version
+-- the question is whether a version lies below an endpoint at another version
 abbrev pub is_other_bound : Question → Bool
 is_other_bound (VersionBelow key boundary) = stands_at is_other_version boundary
 is_other_bound (TextBelow key boundary) = false
 is_other_bound (IsSet flag) = false
 
--- ---- what the call answers
+-- ---- the result of the call
 
 -- of which of these kinds there is a question in the diagram
 abbrev pub asked_by : Diagram Question → Asked

@@ -1,4 +1,4 @@
--- What a node that is lent asks, and the trees that are left to look at.
+-- The questions of a borrowed node, and the trees that are left to look at.
 use Rattle.std.specs.Prelude.{◌≡◌, ℕ, ◌<◌, ◌||◌, Bool, false, List, [], ◌∷◌, map}
 use Rattle.std.specs.List.{AllByRecursion, list_any}
 use Rattle.std.specs.Ordering.{nat_cmp}
@@ -11,12 +11,12 @@ use Rattle.pep508_tree.specs.Meaning.{NodeRecord, diagram_of, IsTree}
 use Rattle.pep508_questions.specs.declared.questions.Asked.{Asked}
 use Rattle.pep508_questions.specs.Asks.{asks_any, asked_by, has_quote, is_of_deprecated_key, is_other_bound}
 
--- ---- what is asked
+-- ---- kinds of questions
 
 abbrev pub nothing : Asked
 nothing = record { single_quote = false; deprecated_key = false; other_bound = false }
 
--- what is asked here or there
+-- the kinds of questions in either of two
 abbrev pub either : Asked → Asked → Asked
 either a b =
     record {
@@ -34,9 +34,9 @@ asked_among questions =
       other_bound = list_any is_other_bound questions;
     }
 
--- ---- a node that is lent
+-- ---- a borrowed node
 
--- its questions, in turn
+-- its questions, in order
 abbrev pub lent_questions : TreeNode → List Question
 lent_questions (lent.Constant truth) = []
 lent_questions (lent.Versions key children) =
@@ -45,7 +45,7 @@ lent_questions (lent.Texts key children) =
     map (λ branch. TextBelow key branch.boundary) children.later.now
 lent_questions (lent.Flagged flag set unset) = IsSet flag.now ∷ []
 
--- the trees that stand in it, in turn, without the node's sign
+-- its children, in order, without the node's negation
 abbrev pub lent_children : TreeNode → List Tree
 lent_children (lent.Constant truth) = []
 lent_children (lent.Versions key children) =
@@ -56,15 +56,15 @@ lent_children (lent.Flagged flag set unset) = set ∷ unset ∷ []
 
 -- ---- trees that are left to look at, by their places
 
--- one is a tree of the interner and stands at its place
+-- one is a tree of the interner and at its place
 abbrev pub IsLeft : List NodeRecord → ℕ × Tree → Type 0
 IsLeft nodes entry = IsTree nodes entry.1 × (entry.0 ≡ entry.1.place)
 
--- the tree asks such a question
+-- the tree has such a question
 abbrev pub tree_asks : List NodeRecord → (Question → Bool) → Tree → Bool
 tree_asks nodes test tree = asks_any test (diagram_of nodes tree)
 
--- what the trees that are left ask
+-- the kinds of the questions of the trees that are left
 abbrev pub asked_left : List NodeRecord → List (ℕ × Tree) → Asked
 asked_left nodes entries =
     record {
@@ -78,8 +78,9 @@ abbrev pub with_trees : List (ℕ × Tree) → List Tree → List (ℕ × Tree)
 with_trees entries [] = entries
 with_trees entries (tree ∷ trees) = with_trees (insert_entry nat_cmp entries tree.place tree) trees
 
--- those that are left after a tree's node was looked at, and what this asked: they are trees of the interner
--- and come before the tree, where those did that were left; and they ask the rest
+-- the trees that are left after a tree's node was looked at, and the kinds of its questions: they are trees
+-- of the interner and come before the tree, where those did that were left; and they have the remaining
+-- questions
 pub record Looked (nodes : List NodeRecord) (tree : Tree) (old new : List (ℕ × Tree)) (asked : Asked)
     : Type 0 where
   pub left : AllByRecursion (IsLeft nodes) old → AllByRecursion (IsLeft nodes) new

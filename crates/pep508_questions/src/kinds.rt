@@ -1,4 +1,4 @@
-//! Of what kinds the questions of one node are.
+//! The kinds of the questions of one node.
 
 ghost use Rattle.std.specs.Prelude.{◌≡◌, ◌^◌, false, not, nat_lt, [], ◌∷◌, map};
 ghost use Rattle.std.specs.List.{list_any};
@@ -16,7 +16,7 @@ use pep508_marker::MarkerValueString;
 use pep508_tree::MarkerTree;
 use version_ranges::Boundary;
 
-/// Whether a character of the text is a single quote.
+/// Returns whether a character of the text is a single quote.
 fn is_quoted(text: &str) -> bool
     ensures { result ≡ is_quoted text.now }
 {
@@ -28,12 +28,12 @@ fn is_quoted(text: &str) -> bool
     false
 }
 
-/// The numbers are of 64 bits. Does nothing.
+/// Shows that the numbers are of 64 bits. Does nothing.
 fn numbers_fit(numbers: &[u64])
     ensures { list_any (λ number. not (nat_lt number (2 ^ 64))) numbers.now ≡ false }
 {}
 
-/// Whether there is more to the version than epoch 0 and release numbers.
+/// Returns whether the version has more than epoch 0 and release numbers.
 fn is_other_version(version: &Version) -> bool
     ensures { result ≡ is_other_version version.now }
 {
@@ -87,7 +87,7 @@ fn have_other(later: &[Branch<Version, MarkerTree>]) -> bool
     false
 }
 
-/// What is asked between versions of a key.
+/// Returns the kinds of the questions between versions of a key.
 pub(crate) fn asked_of_versions(later: &[Branch<Version, MarkerTree>]) -> Asked
     ensures { (key : VersionVariable) →
         result ≡ asked_among (map (λ branch. VersionBelow key branch.boundary) later.now) }
@@ -99,7 +99,7 @@ pub(crate) fn asked_of_versions(later: &[Branch<Version, MarkerTree>]) -> Asked
     }
 }
 
-/// What is asked between texts of a key. Where there is no boundary nothing is.
+/// Returns the kinds of the questions between texts of a key; none where there is no endpoint.
 pub(crate) fn asked_of_texts(
     key: MarkerValueString,
     later: &[Branch<MarkerText, MarkerTree>],
@@ -135,7 +135,7 @@ fn flag_is_of_deprecated_key(flag: &Flag) -> bool
     }
 }
 
-/// What a flag asks.
+/// Returns the kinds of a flag's question.
 pub(crate) fn asked_of_flag(flag: &Flag) -> Asked
     ensures { result ≡ asked_among (IsSet flag.now ∷ []) }
 {

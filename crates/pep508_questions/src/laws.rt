@@ -1,4 +1,4 @@
-//! Laws over the definitions. The functions do nothing: each one's contract is its law.
+//! Laws of the kinds of questions. The functions do nothing: each one's contract is its law.
 
 ghost use Rattle.std.specs.Prelude.{◌≡◌, ◌≢◌, ◌↔◌, false};
 ghost use Rattle.pep508_diagram.specs.Diagram.{Diagram, Leaf};
@@ -20,7 +20,8 @@ pub fn no_old_key_is_asked()
         (asks_any is_of_deprecated_key diagram ≡ false) ↔ AllQuestions AsksOfModernKey diagram }
 {}
 
-/// No question is about another version exactly where all versions are releases of epoch 0.
+/// No question is about a version with more than epoch 0 and release numbers exactly where all versions are
+/// releases of epoch 0.
 pub fn no_other_bound_is_asked()
     ensures { (diagram : Diagram Question) →
         (asks_any is_other_bound diagram ≡ false) ↔ HasReleasesAlone diagram }

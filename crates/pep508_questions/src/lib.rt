@@ -1,4 +1,4 @@
-//! What marker trees (PEP 508, "Environment Markers") ask: of what kinds a tree's questions are.
+//! The questions of marker trees (PEP 508, "Environment Markers"): of which kinds a tree's questions are.
 #![tactic(auto)]
 
 mod kinds;

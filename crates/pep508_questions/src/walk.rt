@@ -15,7 +15,7 @@ use std::collections::BTreeMap;
 /// Trees that are left to look at, by their places.
 type Left = BTreeMap<usize, MarkerTree>;
 
-/// What is asked here or there.
+/// Returns the kinds of questions in either of two.
 fn either(a: Asked, b: Asked) -> Asked
     ensures { result ≡ either a b }
 {
@@ -26,7 +26,7 @@ fn either(a: Asked, b: Asked) -> Asked
     }
 }
 
-/// Puts what stands between boundaries among the trees that are left.
+/// Adds the children between endpoints to the trees that are left.
 fn add_branches<T>(
     left: &mut Left,
     first: MarkerTree,
@@ -42,7 +42,7 @@ fn add_branches<T>(
     Ok(())
 }
 
-/// Puts what stands under a flag among the trees that are left.
+/// Adds the children under a flag to the trees that are left.
 fn add_two(left: &mut Left, set: MarkerTree, unset: MarkerTree) -> Result<(), AllocError>
     ensures { OnOk result (left.new.entries ≡ with_trees left.old.entries (set ∷ unset ∷ [])) }
 {
@@ -51,7 +51,7 @@ fn add_two(left: &mut Left, set: MarkerTree, unset: MarkerTree) -> Result<(), Al
     Ok(())
 }
 
-/// What a tree's node asks. What stands in it is put among the trees that are left.
+/// Returns the kinds of the questions of a tree's node, and adds its children to the trees that are left.
 fn look_at(interner: &Interner, left: &mut Left, tree: MarkerTree) -> Result<Asked, AllocError>
     requires { IsTree interner.now.nodes tree }
     ensures { IfOk result (λ asked. Looked interner.now.nodes tree left.old.entries left.new.entries asked) }
@@ -74,7 +74,7 @@ fn look_at(interner: &Interner, left: &mut Left, tree: MarkerTree) -> Result<Ask
     }
 }
 
-/// Of what kinds a tree's questions are.
+/// Returns the kinds of a tree's questions.
 pub(crate) fn asked_of_tree(
     alloc: Global,
     interner: &Interner,

@@ -1,4 +1,4 @@
--- Clauses whose print is read as they are, and what is read.
+-- Clauses whose print is read as them, and the markers that are read.
 use Rattle.std.specs.Prelude.{◌≡◌, ℕ, ◌<◌, Bool, List, length}
 use Rattle.std.specs.List.{AllByRecursion}
 use Rattle.pep508_marker.specs.Expression.{ExpressionRecord}

@@ -1,4 +1,4 @@
--- Diagrams whose text is read as what they mean.
+-- Diagrams whose text is read with their meaning.
 use Rattle.std.specs.Prelude.{◌≡◌, ℕ, ◌<◌, false, List, length, Some, None}
 use Rattle.version_ranges.specs.declared.boundary.Boundary.{Boundary}
 use Rattle.version_ranges.specs.declared.boundary.Boundary.TheVariants.{At, JustAbove}
@@ -22,7 +22,7 @@ use Rattle.pep508_reading_back.specs.Readable.{IsQuotable}
 abbrev pub IsReadableVersion : VersionRecord → Type 0
 IsReadableVersion version = IsPlainRelease version × (0 < length version.release)
 
--- a text beside a key that is no old name
+-- a text compared with a key that is not an old name
 abbrev pub IsReadableText : MarkerValueString → List ℕ → Type 0
 IsReadableText key text = (is_deprecated key ≡ false) × IsQuotable text
 
@@ -41,7 +41,7 @@ AsksReadably (VersionBelow key boundary) = StandsAt IsReadableVersion boundary
 AsksReadably (TextBelow key boundary) = StandsAt (IsReadableText key) boundary
 AsksReadably (IsSet flag) = IsReadableFlag flag
 
--- only such values stand in the questions of the diagram
+-- the diagram's questions contain only such values
 abbrev pub IsReadableDiagram : Diagram Question → Type 0
 IsReadableDiagram = AllQuestions AsksReadably
 

@@ -5,7 +5,7 @@ use Rattle.std.specs.List.{AllByRecursion}
 use Rattle.std.specs.Str.{chars, IsUtf8}
 use Rattle.std.specs.Str.Lines.{strip_carriage_return}
 
--- whole characters that stand together in the text
+-- whole characters that are next to each other in the text
 pub record IsPieceOf (text piece : List ℕ) : Type 0 where
   pub before : List ℕ
   pub after : List ℕ
@@ -13,8 +13,8 @@ pub record IsPieceOf (text piece : List ℕ) : Type 0 where
   pub before_encoded : IsUtf8 before
   pub encoded : IsUtf8 piece
 
--- whether some of the characters begin a comment: a `#` behind white space, or one that stands first, where
--- `blank` says that white space or nothing stands before
+-- whether some of the characters begin a comment: a `#` after white space, or one that is first, where
+-- `blank` says that white space or nothing is before it
 abbrev pub has_comment : Bool → List ℕ → Bool
 has_comment blank [] = false
 has_comment blank (c ∷ cs) = (blank && c == 35) || has_comment (is_whitespace c) cs

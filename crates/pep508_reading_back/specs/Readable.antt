@@ -1,4 +1,4 @@
--- Comparisons whose print is read as they are (PEP 508, "Environment Markers").
+-- Comparisons whose print is read as them (PEP 508, "Environment Markers").
 use Rattle.std.specs.Prelude.{◌≡◌, ◌≢◌, ℕ, ◌==◌, true, false, List, [], ◌∷◌, All, Some, None}
 use Rattle.std.specs.Str.{chars, IsUtf8}
 use Rattle.pep440_operator.specs.declared.operator.Operator.TheVariants.{ExactEqual}
@@ -20,7 +20,7 @@ use Rattle.pep508_marker_read.specs.MarkerReading.{Marker}
 abbrev pub IsUnquoted : List ℕ → Type 0
 IsUnquoted text = All (λ c. (c == 39) ≡ false) (chars text)
 
--- a text that may stand between single quotes
+-- a text that is allowed between single quotes
 pub record IsQuotable (text : List ℕ) : Type 0 where
   pub encoded : IsUtf8 text
   pub unquoted : IsUnquoted text
@@ -30,18 +30,18 @@ pub record IsPrintableSpecifier (specifier : SpecifierRecord) : Type 0 where
   pub printable : IsPrintable specifier.version
   pub built : IsBuilt specifier
 
--- one that a marker can have, of which `===` is no operator
+-- a specifier that a marker can contain, which has no operator `===`
 pub record IsReadableSpecifier (specifier : SpecifierRecord) : Type 0 where
   pub printed : IsPrintableSpecifier specifier
   pub in_markers : specifier.operator ≢ ExactEqual
 
--- a name in normal form, or a text that is no name
+-- a name in normal form, or a text that is not a name
 abbrev pub IsReadableExtra : ExtraRecord → Type 0
 IsReadableExtra (Name name) = name_of name ≡ Some name
 IsReadableExtra (Arbitrary text) = (name_of text ≡ None) × IsQuotable text
 
--- a comparison that a text can have; the numbers of its version can be raised. An old name of a key prints as
--- the modern one, and lists of versions stand in no clause
+-- a comparison that a text can contain; the numbers of its version can be raised. An old name of a key
+-- prints as the modern one, and a clause contains no list of versions
 abbrev pub IsReadable : ExpressionRecord → Type 0
 IsReadable (Version key specifier) =
     IsReadableSpecifier specifier × (has_points (Version key specifier) ≡ true)
@@ -50,7 +50,7 @@ IsReadable (String key operator text) =
     (is_deprecated key ≡ false) × (operator ≢ TildeEqual) × IsQuotable text
 IsReadable (Extra operator asked) = IsReadableExtra asked
 
--- an extra whose text is no name is warned of
+-- an extra whose text is not a name gets a warning
 abbrev pub warned_extra : ExtraRecord → List MarkerWarningKind
 warned_extra (Name name) = []
 warned_extra (Arbitrary text) = ExtraInvalidComparison ∷ []
@@ -61,6 +61,6 @@ warned_of (VersionIn key versions negated) = []
 warned_of (String key operator text) = []
 warned_of (Extra operator asked) = warned_extra asked
 
--- the marker that says a comparison, and nothing else
+-- the marker of one comparison, and nothing else
 abbrev pub marker_of : ExpressionRecord → Marker
 marker_of term = record { formula = Says term; warned = warned_of term }

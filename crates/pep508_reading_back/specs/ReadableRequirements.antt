@@ -1,4 +1,4 @@
--- Which requirements are read as what they print (PEP 508, "Grammar").
+-- Which requirements are read from their print (PEP 508, "Grammar").
 use Rattle.std.specs.Prelude.{◌≡◌, ℕ, ◌<◌, List, length, Some}
 use Rattle.std.specs.List.{AllByRecursion}
 use Rattle.pep508_name.specs.Name.{name_of}
@@ -18,7 +18,7 @@ IsReadableSource Any = Unit {0}
 IsReadableSource (Specifiers given) = (0 < length given) × AllByRecursion IsPrintableSpecifier given
 IsReadableSource (Url url) = ⊥
 
--- nothing or specifiers are asked for, and no URL
+-- no requirement, or specifiers, and no URL
 abbrev pub NamesNoUrl : front.Source → Type 0
 NamesNoUrl Any = Unit {0}
 NamesNoUrl (Specifiers given) = Unit {0}

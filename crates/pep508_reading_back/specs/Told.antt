@@ -1,4 +1,4 @@
--- The questions on which a marker that was read hangs, and what stands in them: what a text can say.
+-- The questions on which a marker that was read depends, and the values in them: what a text can express.
 use Rattle.std.specs.Prelude.{◌≡◌, ℕ, List, [], ◌∷◌, ◌++◌, Some, None, option_to_list}
 use Rattle.std.specs.List.{flat_map}
 use Rattle.std.specs.Str.{IsUtf8}
@@ -21,7 +21,7 @@ use Rattle.pep508_expression.specs.Expressions.{variable_of, extra_flag}
 use Rattle.pep508_marker_read.specs.Formula.{Formula, Says, LeftOut, Both, Either}
 use Rattle.pep508_reading_back.specs.Diagrams.{StandsAt}
 
--- ---- all that a comparison can ask for, by whatever operator
+-- ---- all questions that a comparison can have, by whatever operator
 
 -- the numbers with the last of them raised, if there are such
 abbrev pub next_release : List ℕ → List (List ℕ)
@@ -54,7 +54,7 @@ text_questions key text =
     TextBelow key (At text) ∷ TextBelow key (JustAbove text) ∷ IsSet (flag.In key text)
     ∷ IsSet (flag.Contains key text) ∷ []
 
--- the answers to these decide whether the comparison holds
+-- the questions whose answers decide whether the comparison holds
 abbrev pub questions_of_term : ExpressionRecord → List Question
 questions_of_term (Version key specifier) = release_questions key specifier.version.release
 questions_of_term (VersionIn key versions negated) = flat_map (listed_questions key) versions
@@ -68,21 +68,21 @@ questions_of LeftOut = []
 questions_of (Both f g) = questions_of f ++ questions_of g
 questions_of (Either f g) = questions_of f ++ questions_of g
 
--- ---- what a text can say
+-- ---- what a text can express
 
--- an extra is asked for by its normal name, and otherwise by a text that is no name
+-- an extra is named by its normal name, and otherwise by a text that is not a name
 abbrev pub IsFlagOf : (List ℕ → Type 0) → Flag → Type 0
 IsFlagOf good (flag.In key text) = good text
 IsFlagOf good (flag.Contains key text) = good text
 IsFlagOf good (flag.Extra name) = name_of name ≡ Some name
 IsFlagOf good (flag.Arbitrary text) = good text × (name_of text ≡ None)
 
--- a version that a text can say, and a text of which this holds
+-- a version that a text can express, and a text that meets the condition
 abbrev pub AsksOf : (List ℕ → Type 0) → Question → Type 0
 AsksOf good (VersionBelow key boundary) = StandsAt IsPrintable boundary
 AsksOf good (TextBelow key boundary) = StandsAt good boundary
 AsksOf good (IsSet asked) = IsFlagOf good asked
 
--- a version and a text that a text can say
+-- a version and a text that a text can express
 abbrev pub IsTold : Question → Type 0
 IsTold = AsksOf IsUtf8

@@ -1,4 +1,4 @@
--- Which requirements with their interner are read as what they print, and what is read of it.
+-- Which requirements with their interner are read from their print, and the requirements that are read.
 use Rattle.std.specs.Prelude.{◌≡◌, ◌≢◌, ◌<◌, false, List, length, Option, Some, None, Result, Ok, Err}
 use Rattle.std.specs.List.{AllByRecursion}
 use Rattle.pep440_specifier_list.specs.Lists.{IsByVersion}
@@ -18,7 +18,7 @@ use Rattle.pep508_requirement_ref.specs.declared.requirement_ref.RequirementRef.
 use Rattle.pep508_reading_back.specs.Diagrams.{IsReadableDiagram}
 use Rattle.pep508_reading_back.specs.Readable.{IsPrintableSpecifier}
 
--- nothing, or some specifiers, which stand by version as in each list of them, and no URL
+-- nothing, or some specifiers, which are sorted by version as in each list of them, and no URL
 abbrev pub IsReadableAsked : {T E : Type 0} → Option (VersionOrUrl T E) → Type 0
 IsReadableAsked None = Unit {0}
 IsReadableAsked (Some (asked.VersionSpecifier list)) =
@@ -33,7 +33,7 @@ pub record IsReadableView {T E : Type 0} (shown : RequirementRef T E) : Type 0 w
   pub marker : IsReadableDiagram (diagram_in (tree_in shown.marker))
   pub sometimes : diagram_in (tree_in shown.marker) ≢ Leaf false
 
--- nothing where nothing was asked for, and the same specifiers
+-- nothing where there was nothing, and the same specifiers
 abbrev pub AsksAgain : {T E : Type 0} → Option (VersionOrUrl T E) → Option (VersionOrUrl T E) → Type 0
 AsksAgain None None = Unit {0}
 AsksAgain (Some (asked.VersionSpecifier given)) (Some (asked.VersionSpecifier list)) = given ≡ list
@@ -45,7 +45,8 @@ pub record HasFront {T E : Type 0} (shown : RequirementRef T E) (r : Requirement
   pub extras : r.extras.items ≡ shown.extras.now
   pub asks : AsksAgain shown.version_or_url.now r.version_or_url
 
--- and its marker, a tree of these nodes, means what the shown one does
+-- the requirement's parts are those that are shown, and its marker, a tree of these nodes, means what the
+-- shown one does
 pub record SaysShown {T E : Type 0} (nodes : List NodeRecord) (shown : RequirementRef T E)
     (r : Requirement T E) : Type 0 where
   pub front : HasFront shown r
@@ -55,7 +56,7 @@ abbrev pub IsWantOfMemory : {T E : Type 0} → Pep508ErrorSource T E → Type 0
 IsWantOfMemory Memory = Unit {0}
 IsWantOfMemory source = ⊥
 
--- a requirement that says what is shown, or want of memory
+-- a requirement that means what is shown, or lack of memory
 abbrev pub ReadsBack : {T E : Type 0} → List NodeRecord → RequirementRef T E
     → Result (Requirement T E) (Pep508Error T E) → Type 0
 ReadsBack nodes shown (Ok r) = SaysShown nodes shown r

@@ -1,4 +1,4 @@
--- Diagrams whose text is that of some marker, whatever it is read as (PEP 508, "Environment Markers").
+-- Diagrams whose text is that of some marker, with whatever meaning (PEP 508, "Environment Markers").
 use Rattle.std.specs.Prelude.{[], None}
 use Rattle.pep440_text.specs.Record.{VersionRecord}
 use Rattle.pep440_text.specs.Printable.{IsPrintable}
@@ -16,12 +16,12 @@ as_written version = record version { local = []; least = None; most = None }
 abbrev pub IsSayable : VersionRecord → Type 0
 IsSayable version = IsPrintable (as_written version)
 
--- a text can have what the question is about
+-- a text can contain what the question is about
 abbrev pub AsksWritably : Question → Type 0
 AsksWritably (VersionBelow key boundary) = StandsAt IsSayable boundary
 AsksWritably (TextBelow key boundary) = StandsAt IsQuotable boundary
 AsksWritably (IsSet flag) = IsQuotable (flag_text flag)
 
--- only such values stand in the questions of the diagram
+-- the diagram's questions contain only such values
 abbrev pub IsWritableDiagram : Diagram Question → Type 0
 IsWritableDiagram = AllQuestions AsksWritably

@@ -1,4 +1,5 @@
-//! Laws over the definitions. The functions do nothing: each one's contract is its law.
+//! Laws of reading printed markers and requirements. The functions do nothing: each one's contract is its
+//! law.
 ghost use Rattle.std.specs.Prelude.{◌≡◌, ◌≢◌, ℕ, false, List, Option, Some, None};
 ghost use Rattle.std.specs.Str.{chars, IsUtf8};
 ghost use Rattle.pep508_marker.specs.Expression.{ExpressionRecord, expression_text};
@@ -46,8 +47,8 @@ use pep508_requirement_ref::RequirementRef;
 use pep508_url::Pep508Url;
 use std::fmt;
 
-/// A printed comparison that a text can have is read as that very comparison; a warning tells of an extra
-/// whose text is no name, and of nothing else.
+/// A printed comparison that a text can contain is read as that very comparison, with a warning only for an
+/// extra whose text is not a name.
 pub fn a_printed_comparison_is_read()
     ensures { (term : ExpressionRecord) → IsReadable term
         → IsMarkerText (chars (expression_text term)) (marker_of term) }
@@ -60,17 +61,18 @@ pub fn printed_clauses_are_read()
         → ReadsClauses (chars (clauses_text clauses)) clauses }
 {}
 
-/// The text of a diagram is read as a marker that holds exactly where the diagram does: of one whose versions
-/// are releases of epoch 0, whose texts have no single quote and whose keys are no old names. Nothing is
-/// written for what holds always; what never holds is left out here, as `python_version < '0'` is written.
+/// The text of a diagram is read as a marker that holds exactly where the diagram does, if the diagram's
+/// versions are releases of epoch 0, its texts have no single quote and its keys are not old names. Nothing
+/// is written for what holds always; what never holds is not covered, as `python_version < '0'` is written
+/// for it.
 pub fn a_printed_marker_means_its_diagram()
     ensures { (diagram : Diagram Question) (text : List ℕ) → IsCanonical diagram → IsReadableDiagram diagram
         → diagram ≢ Leaf false → marker_text diagram ≡ Some text → ReadsDiagram (chars text) diagram }
 {}
 
-/// A printed requirement without a URL, whose names are normal and whose specifiers a text can have, is read
-/// with its name, its extras and its specifiers: without a marker, and with whatever marker is read of the
-/// text behind the `;`.
+/// A printed requirement without a URL, whose names are normal and whose specifiers a text can contain, is
+/// read with its name, its extras and its specifiers: without a marker, and with whatever marker is read
+/// from the text after the `;`.
 pub fn a_printed_requirement_is_read()
     ensures plain { (front : Front) → IsReadableFront front
         → IsMarkedText (requirement_text front None) front no_marker }
@@ -78,16 +80,17 @@ pub fn a_printed_requirement_is_read()
         → IsMarkerText (chars text) marker → IsMarkedText (requirement_text front (Some text)) front marker }
 {}
 
-/// So such a requirement that is printed with the text of such a diagram is read with a marker that holds
-/// exactly where the diagram does; where that is always, no marker is written.
+/// A requirement without a URL that is printed with the text of a readable diagram is read with a marker
+/// that holds exactly where the diagram does; where that is always, no marker is written.
 pub fn a_printed_requirement_means_its_diagram()
     ensures { (front : Front) (diagram : Diagram Question) → IsReadableFront front → IsCanonical diagram
         → IsReadableDiagram diagram → diagram ≢ Leaf false
         → ReadsRequirement (requirement_text front (marker_text diagram)) front diagram }
 {}
 
-/// Whatever requirement is read of that text has the name, the extras and the specifiers that were printed,
-/// and a tree that holds exactly where the diagram does.
+/// Whatever requirement is read from the print of a readable requirement without a URL has the name, the
+/// extras and the specifiers that were printed, and a tree that holds exactly where the printed diagram
+/// does.
 pub fn a_printed_requirement_reads_back<T: Pep508Url>()
     ensures { (vars : Variables) (directory : Option (List ℕ)) (nodes : List NodeRecord) (front : Front)
         (diagram : Diagram Question) (r : _) → IsReadableFront front → IsCanonical diagram
@@ -100,7 +103,7 @@ pub fn a_printed_requirement_reads_back<T: Pep508Url>()
     a_written_requirement_is_read();
 }
 
-/// What such a requirement prints with its interner, as its `to_string` gives it, is read by
+/// The print of a readable requirement with its interner, as its `to_string` returns it, is read by
 /// `Requirement::parse` with any interner, unless memory runs out: with its name, its extras and its
 /// specifiers, and a tree that means what its marker does.
 pub fn a_printed_view_reads_back<'a, T: Pep508Url>(shown: &RequirementRef<'a, T>)
@@ -115,44 +118,46 @@ pub fn a_printed_view_reads_back<'a, T: Pep508Url>(shown: &RequirementRef<'a, T>
     a_written_requirement_is_not_refused::<T>();
 }
 
-/// Whatever marker is printed reads as one again, though perhaps with another meaning: of each diagram whose
-/// versions a text can have and whose texts have no single quote, whatever its keys and its bounds.
+/// Whatever marker is printed reads as one again, though perhaps with another meaning: of each diagram
+/// whose versions a text can contain and whose texts have no single quote, whatever its keys and its
+/// bounds.
 pub fn a_printed_marker_is_a_marker()
     ensures { (diagram : Diagram Question) (text : List ℕ) → IsCanonical diagram → IsWritableDiagram diagram
         → marker_text diagram ≡ Some text → (marker : Marker) × IsMarkerText (chars text) marker }
 {}
 
-/// The diagram of a marker whose truth some questions settle asks these questions alone, up to the spelling
-/// of equal versions.
+/// The diagram of a marker whose truth depends only on some questions has just these questions, up to the
+/// spelling of equal versions.
 pub fn a_marker_asks_what_its_meaning_asks()
     ensures { (asked : List Question) (diagram : Diagram Question) → IsCanonical diagram
         → ((v w : Valuation) → AnswerAlike asked v w → truth diagram v ≡ truth diagram w)
         → AllQuestions (IsAmong asked) diagram }
 {}
 
-/// Where the questions of a formula's comparisons are answered alike, it holds alike.
+/// Under valuations that answer the questions of a formula's comparisons alike, it has the same truth.
 pub fn a_formula_hangs_on_its_questions()
     ensures { (f : Formula ExpressionRecord) (v w : Valuation) → AnswerAlike (questions_of f) v w →
         formula_holds (λ t. expression_holds t v) f ≡ formula_holds (λ t. expression_holds t w) f }
 {}
 
-/// The diagram of a marker that was read of a text, as interners keep it, asks for what texts can say alone:
-/// for versions and texts that could stand in it, and for extras by their normal names.
+/// The diagram of a marker that was read from a text, as interners keep it, tests only what texts can
+/// express: versions and texts that could be in it, and extras by their normal names.
 pub fn a_read_marker_asks_what_texts_say()
     ensures { (text : List ℕ) (front : Front) (marker : Marker) (diagram : Diagram Question) → IsUtf8 text
         → IsMarkedText text front marker → IsCanonical diagram
         → HasShortVersions diagram → SaysDiagram diagram marker → AllQuestions IsTold diagram }
 {}
 
-/// And its texts are pieces of the text that was read, but for the normal names of extras.
+/// The texts of the diagram of a marker that was read are pieces of the text that was read, but for the
+/// normal names of extras.
 pub fn a_read_marker_asks_pieces_of_its_text()
     ensures { (text : List ℕ) (front : Front) (marker : Marker) (diagram : Diagram Question)
         → IsUtf8 text → IsMarkedText text front marker → IsCanonical diagram → HasShortVersions diagram
         → SaysDiagram diagram marker → AllQuestions (AsksOf (IsPieceOf text)) diagram }
 {}
 
-/// What is read of a text before its marker, without a URL, is such that its print is read again: its names
-/// and its specifiers, in the order given or as lists keep them.
+/// The part of a text before its marker, without a URL, is read so that its print can be read again: its
+/// names and its specifiers, in the order given or as lists keep them.
 pub fn a_read_front_is_readable()
     ensures given { (text : List ℕ) (front : Front) (marker : Marker) → IsMarkedText text front marker
         → NamesNoUrl front.source → IsReadableFront front }
@@ -162,15 +167,15 @@ pub fn a_read_front_is_readable()
 {}
 
 /// A printed requirement is one line and has no comment, where the texts of its marker are pieces of such a
-/// line: so a line of its print can stand for the line that was read.
+/// line: so a line of its print can replace the line that was read.
 pub fn a_printed_requirement_is_a_line()
     ensures { (line : List ℕ) (front : Front) (diagram : Diagram Question) → IsLine line
         → IsReadableFront front → AllQuestions (AsksOf (IsPieceOf line)) diagram
         → IsWholeLine (requirement_text front (marker_text diagram)) }
 {}
 
-/// What a requirement that was read of a line, without a URL, prints with its interner is one line again, and
-/// has no comment.
+/// The print, with its interner, of a requirement that was read from a line, without a URL, is one line
+/// again, and has no comment.
 pub fn a_read_line_prints_a_line<'a, T: Pep508Url>(shown: &RequirementRef<'a, T>)
     ensures { (vars : Variables) (directory : Option (List ℕ)) (line text : List ℕ) → IsLine line
         → ShowsRead (λ url. T.reads vars url directory) line shown.now
@@ -181,9 +186,9 @@ pub fn a_read_line_prints_a_line<'a, T: Pep508Url>(shown: &RequirementRef<'a, T>
     a_read_requirement_is_written::<T>();
 }
 
-/// What a requirement that was read without a URL prints with its interner is read by `Requirement::parse`
-/// with any interner, unless memory runs out, with its name, its extras and its specifiers: where no text of
-/// its marker has a single quote, which a text in double quotes may have.
+/// The print, with its interner, of a requirement that was read without a URL is read by
+/// `Requirement::parse` with any interner, unless memory runs out, with its name, its extras and its
+/// specifiers: where no text of its marker has a single quote, which a text in double quotes may have.
 pub fn a_read_requirement_reads_back<'a, T: Pep508Url>(shown: &RequirementRef<'a, T>)
     ensures { (vars others : Variables) (directory other : Option (List ℕ)) (given text : List ℕ)
         (nodes : List NodeRecord) (answer : _) → IsUtf8 given
@@ -201,8 +206,8 @@ pub fn a_read_requirement_reads_back<'a, T: Pep508Url>(shown: &RequirementRef<'a
 }
 
 /// The marker of a requirement that was read without a URL reads back too, as a tree that means the same:
-/// where its texts have no single quote, its versions are releases of epoch 0, its keys are no old names, and
-/// it sometimes holds.
+/// where its texts have no single quote, its versions are releases of epoch 0, its keys are not old names,
+/// and it sometimes holds.
 pub fn a_read_marker_reads_back<'a, T: Pep508Url>(shown: &RequirementRef<'a, T>)
     ensures { (vars others : Variables) (directory other : Option (List ℕ)) (given text : List ℕ)
         (nodes : List NodeRecord) (answer : _) → IsUtf8 given

@@ -1,4 +1,4 @@
-//! What printed markers and requirements are read as: laws.
+//! Laws of reading printed markers and requirements.
 #![tactic(auto)]
 
 pub mod laws;

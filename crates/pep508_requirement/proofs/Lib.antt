@@ -5,3 +5,4 @@ pub mod Behind
 pub mod Requirements
 pub mod UnnamedRequirements
 pub mod Markers
+pub mod WithTree

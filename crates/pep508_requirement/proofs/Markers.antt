@@ -3,6 +3,8 @@ use Rattle.std.proofs.Common.{◌≡◌, ℕ, ◌==◌, Bool, true, false, if◌
 use Rattle.std.proofs.Common.{refl, ap, sym, subst, arith}
 use Rattle.std.proofs.lemmas.List.{append-nil}
 use Rattle.pep508_marker.specs.Warnings.{Warning}
+use Rattle.pep508_marker.specs.Expression.{ExpressionRecord}
+use Rattle.pep508_formula.specs.Postfix.{Part, formula_of}
 use Rattle.pep508_diagram.specs.Question.{truth}
 use Rattle.pep508_tree.specs.Tree.{Tree, always}
 use Rattle.pep508_tree.specs.Meaning.{NodeRecord, Extends}
@@ -13,7 +15,7 @@ use Rattle.pep508_error.specs.declared.refusal.RefusalKind.TheVariants as kinds
 use Rattle.pep508_marker_read.specs.SideReading.{Malformed}
 use Rattle.pep508_marker_read.specs.MarkerReading.{marker_at}
 use Rattle.pep508_marker_read.specs.Outcome.{Fits, Tells}
-use Rattle.pep508_marker_read.specs.MarkerOutcome.{IsTreeOf, ReadsMarker}
+use Rattle.pep508_marker_read.specs.MarkerOutcome.{IsTreeOf, ReadsMarker, SaysMarker}
 use Rattle.pep508_requirement_text.specs.FrontOutcome.{IsPlain}
 use Rattle.pep508_requirement.specs.MarkerBehind.{no_marker, marker_behind}
 
@@ -45,6 +47,23 @@ module _ {R : Type 0} (takes : R → Warning → R → Type 0) (old new : R) (no
       → ReadsMarker takes old new nodes result (marker_behind left)
   reads_inside result inside at h =
       subst (λ cs. ReadsMarker takes old new nodes result (marker_behind cs)) {x = 59 ∷ inside} (sym at) h
+
+module _ {R : Type 0} (takes : R → Warning → R → Type 0) (old new : R) (left : List ℕ) where
+  -- the same of formulas: nothing is left
+  pub says_none : (parts : List (Part ExpressionRecord)) → parts ≡ [] → old ≡ new → left ≡ []
+      → SaysMarker takes old new (Ok parts) (marker_behind left)
+  says_none parts empty same none = (
+    no_marker,
+    ap marker_behind none,
+    ap formula_of empty,
+    record { warnings = []; are_kinds = refl; taken = same },
+  )
+
+  -- a `;` is left, and more
+  pub says_inside : (result : Result (List (Part ExpressionRecord)) Refusal) (inside : List ℕ) → left ≡ 59 ∷ inside
+      → SaysMarker takes old new result (marker_at inside) → SaysMarker takes old new result (marker_behind left)
+  says_inside result inside at h =
+      subst (λ cs. SaysMarker takes old new result (marker_behind cs)) {x = 59 ∷ inside} (sym at) h
 
 -- a refusal of what begins no marker
 plain_fits : (kind : RefusalKind) → IsPlain kind → Fits kind Malformed

@@ -1,4 +1,4 @@
--- What a requirement asks for beside its name and extras.
+-- The specifiers or the URL of a requirement.
 use Rattle.std.specs.Prelude.{ℕ, List, Option, Some}
 use Rattle.pep440_specifier_list.specs.ListText.{list_text}
 use Rattle.pep508_requirement.specs.declared.version_or_url.VersionOrUrl.{VersionOrUrl}
@@ -6,7 +6,7 @@ use Rattle.pep508_requirement.specs.declared.version_or_url.VersionOrUrl.TheVari
 use Rattle.pep508_requirement.specs.declared.version_or_url.VersionOrUrlRef.{VersionOrUrlRef}
 use Rattle.pep508_requirement.specs.declared.version_or_url.VersionOrUrlRef.TheVariants as refs
 
--- what is lent
+-- the borrowed value
 abbrev pub lent : {T E : Type 0} → VersionOrUrlRef T E → VersionOrUrl T E
 lent (refs.VersionSpecifier list) = asked.VersionSpecifier list.now
 lent (refs.Url url) = asked.Url url.now

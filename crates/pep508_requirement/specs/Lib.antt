@@ -2,6 +2,7 @@ pub mod Asked
 pub mod Requirements
 pub mod MarkerBehind
 pub mod RequirementReading
+pub mod MarkedReading
 pub mod Pieces
 pub mod ExtrasReading
 pub mod UnnamedUrls

@@ -1,4 +1,4 @@
--- The marker of a requirement, which stands behind its front (PEP 508, "Grammar").
+-- The marker of a requirement, which follows its front (PEP 508, "Grammar").
 use Rattle.std.specs.Prelude.{◌≡◌, ℕ, ◌==◌, if◌then◌else◌, List, [], ◌∷◌, Result, Ok, Err}
 use Rattle.std.specs.Str.{skip_leading_whitespace}
 use Rattle.pep508_marker.specs.Warnings.{Warning}
@@ -13,12 +13,13 @@ use Rattle.pep508_requirement_text.specs.UnnamedReading.{UnnamedFront, IsUnnamed
 abbrev pub no_marker : Marker
 no_marker = record { formula = LeftOut; warned = [] }
 
--- the marker of the characters behind a front and white space: none, or a `;` and what a marker is read of
+-- the marker of the characters after a front and white space: none, or a `;` and the characters that a
+-- marker is read from
 abbrev pub marker_behind : List ℕ → Result Marker Refused
 marker_behind [] = Ok no_marker
 marker_behind (c ∷ cs) = if c == 59 then marker_at cs else Err Malformed
 
--- a reporter took the warnings of the marker behind the text's front, in their order
+-- a reporter received the warnings of the marker after the text's front, in their order
 pub record TakesWarnings {R : Type 0} (takes : R → Warning → R → Type 0) (old new : R) (text : List ℕ)
     : Type 0 where
   pub front : Front

@@ -1,4 +1,4 @@
--- What the steps of reading answer: the URL of a front.
+-- The results of the steps of reading: the URL of a front.
 use Rattle.std.specs.Prelude.{◌≡◌, ℕ, Bool, false, List, Option, Some, None, Result, Ok, Err, IfSome}
 use Rattle.pep508_error.specs.declared.error.Pep508Error.{Pep508Error}
 use Rattle.pep508_error.specs.declared.error.Pep508ErrorSource.{Pep508ErrorSource}
@@ -9,7 +9,7 @@ use Rattle.pep508_requirement_text.specs.declared.source.Source.TheVariants as r
 use Rattle.pep508_requirement.specs.declared.version_or_url.VersionOrUrl.{VersionOrUrl}
 use Rattle.pep508_requirement.specs.declared.version_or_url.VersionOrUrl.TheVariants as asked
 
--- this is said of the URL's text, and not for want of memory
+-- this error is of the URL's text, and not for lack of memory
 abbrev pub UrlRefusedBy : {T E : Type 0} → (List ℕ → Result T E → Type 0) → (E → Bool) → List ℕ
     → Pep508ErrorSource T E → Type 0
 UrlRefusedBy Reads lacks text sources.Memory = Unit {0}
@@ -23,13 +23,13 @@ pub record IsUrlError {T E : Type 0} (Reads : List ℕ → Result T E → Type 0
   pub cause : UrlRefusedBy Reads lacks text error.message
   pub input : IfSome (told_error error) (λ fault. fault.input ≡ whole)
 
--- what was returned is what is read of the URL's text
+-- the result is the reading of the URL's text
 abbrev pub ReadsPiece : {T E : Type 0} → (List ℕ → Result T E → Type 0) → (E → Bool) → List ℕ → List ℕ
     → Result T (Pep508Error T E) → Type 0
 ReadsPiece Reads lacks text whole (Ok url) = Reads text (Ok url)
 ReadsPiece Reads lacks text whole (Err error) = IsUrlError Reads lacks text whole error
 
--- what is asked for by what was read at the front
+-- the specifiers or the URL that the front requires
 abbrev pub ReadsAsked : {T E : Type 0} → (List ℕ → Result T E → Type 0) → (E → Bool) → Source
     → Result (Option (VersionOrUrl T E)) (Pep508Error T E) → Type 0
 ReadsAsked Reads lacks read.Any result = result ≡ Ok None

@@ -1,5 +1,5 @@
--- What reading a requirement's text answers, by its front and by the marker behind it. `Reads` says what
--- may be returned for the text of a URL: it is the type of URLs that knows.
+-- The result of reading a requirement's text, by its front and by the marker after it. `Reads` says what
+-- may be returned for the text of a URL: that depends on the type of URLs.
 use Rattle.std.specs.Prelude.{◌≡◌, ◌⊎◌, ℕ, Bool, false, List, Option, Some, None, Result, Ok, Err, IfSome}
 use Rattle.std.specs.Str.{skip_leading_whitespace}
 use Rattle.pep440_specifier_list.specs.Lists.{IsInOrder}
@@ -23,8 +23,8 @@ use Rattle.pep508_requirement.specs.declared.requirement.Requirement.{Requiremen
 use Rattle.pep508_requirement.specs.declared.version_or_url.VersionOrUrl.{VersionOrUrl}
 use Rattle.pep508_requirement.specs.declared.version_or_url.VersionOrUrl.TheVariants as asked
 
--- what a requirement asks for beside its name and extras is what the text says: nothing, the given specifiers
--- in order, or a URL that is read of the given text
+-- the requirement's specifiers or URL are those of the text: nothing, the given specifiers in order, or a
+-- URL that is read from the given text
 abbrev pub AsksFor : {T E : Type 0} → (List ℕ → Result T E → Type 0) → Source → Option (VersionOrUrl T E)
     → Type 0
 AsksFor Reads Any None = Unit {0}
@@ -34,7 +34,7 @@ AsksFor Reads (Specifiers given) what = ⊥
 AsksFor Reads (Url text) (Some (asked.Url url)) = Reads text (Ok url)
 AsksFor Reads (Url text) what = ⊥
 
--- the front of the text is read, its URL too, and behind white space these characters are left
+-- the front of the text is read, its URL too, and after white space these characters are left
 pub record IsReadUpTo {T E : Type 0} (Reads : List ℕ → Result T E → Type 0) (text : List ℕ) (front : Front)
     (what : Option (VersionOrUrl T E)) (left : List ℕ) : Type 0 where
   pub rest : List ℕ
@@ -42,8 +42,7 @@ pub record IsReadUpTo {T E : Type 0} (Reads : List ℕ → Result T E → Type 0
   pub asks : AsksFor Reads front.source what
   pub behind : skip_leading_whitespace rest ≡ left
 
--- the text is read as this requirement, whose marker is a tree of these nodes; it comes from no place that
--- was told
+-- the text is read as this requirement, whose marker is a tree of these nodes; it has no origin
 pub record IsRead {T E : Type 0} (Reads : List ℕ → Result T E → Type 0) (nodes : List NodeRecord)
     (text : List ℕ) (r : Requirement T E) : Type 0 where
   pub front : Front
@@ -56,13 +55,13 @@ pub record IsRead {T E : Type 0} (Reads : List ℕ → Result T E → Type 0) (n
   pub tree : IsTreeOf nodes r.marker marker.formula
   pub origin : r.origin ≡ None
 
--- the front of the text is refused, for a reason that this kind of refusal tells
+-- the front of the text is refused, for a reason of this kind of refusal
 pub record IsFrontRefused (vars : Variables) (text : List ℕ) (kind : RefusalKind) : Type 0 where
   pub refused : Refused
   pub reading : front_reading text ≡ Err refused
   pub fits : Fits vars kind refused
 
--- the front has a URL of which this error is told, and not for want of memory
+-- the front has a URL with this error, which is not for lack of memory
 pub record IsUrlRefused {T E : Type 0} (Reads : List ℕ → Result T E → Type 0) (lacks : E → Bool)
     (text : List ℕ) (error : E) : Type 0 where
   pub front : Front
@@ -73,7 +72,7 @@ pub record IsUrlRefused {T E : Type 0} (Reads : List ℕ → Result T E → Type
   pub reads : Reads url (Err error)
   pub told : lacks error ≡ false
 
--- front and URL are read, and the marker behind them is refused, for a reason that this kind of refusal tells
+-- front and URL are read, and the marker after them is refused, for a reason of this kind of refusal
 pub record IsMarkerRefused {T E : Type 0} (Reads : List ℕ → Result T E → Type 0) (text : List ℕ)
     (kind : RefusalKind) : Type 0 where
   pub front : Front
@@ -84,7 +83,7 @@ pub record IsMarkerRefused {T E : Type 0} (Reads : List ℕ → Result T E → T
   pub is_marker : marker_behind left ≡ Err refused
   pub fits : outcome.Fits kind refused
 
--- why a text is refused, by what its error says
+-- why a text is refused, by its error
 abbrev pub RefusedBy : {T E : Type 0} → (List ℕ → Result T E → Type 0) → (E → Bool) → Variables → List ℕ
     → Pep508ErrorSource T E → Type 0
 RefusedBy Reads lacks vars text sources.Memory = Unit {0}
@@ -101,7 +100,7 @@ pub record IsRefused {T E : Type 0} (Reads : List ℕ → Result T E → Type 0)
   pub cause : RefusedBy Reads lacks vars text error.message
   pub input : IfSome (told_error error) (λ fault. fault.input ≡ text)
 
--- what reading the text answers, with these nodes afterwards
+-- the results of reading the text, with these nodes afterwards
 abbrev pub ReadsRequirement : {T E : Type 0} → (List ℕ → Result T E → Type 0) → (E → Bool) → Variables
     → List NodeRecord → List ℕ → Result (Requirement T E) (Pep508Error T E) → Type 0
 ReadsRequirement Reads lacks vars nodes text (Ok r) = IsRead Reads nodes text r

@@ -13,7 +13,7 @@ use Rattle.pep508_requirement_text.specs.UnnamedReading.{UnnamedFront}
 use Rattle.pep508_requirement_text.specs.UnnamedText.{IsUnnamedText}
 use Rattle.pep508_requirement.specs.MarkerBehind.{no_marker}
 
--- what stands behind a front: white space, and then nothing, or a `;` and a marker
+-- the text after a front: white space, and then nothing, or a `;` and a marker
 abbrev pub IsBehindText : List ℕ → Marker → Type 0
 IsBehindText rest marker =
     (AreSpaces rest × (marker ≡ no_marker))
@@ -23,12 +23,12 @@ IsBehindText rest marker =
 abbrev pub IsMarkedText : List ℕ → Front → Marker → Type 0
 IsMarkedText text front marker = (rest : List ℕ) × IsFrontText text front rest × IsBehindText rest marker
 
--- the same of a requirement without a name
+-- the text is that of a requirement without a name with this front and this marker
 abbrev pub IsUnnamedMarkedText : List ℕ → UnnamedFront → Marker → Type 0
 IsUnnamedMarkedText text front marker =
     (rest : List ℕ) × IsUnnamedText text front rest × IsBehindText rest marker
 
--- the text is refused by the grammar or for a number of its marker: not for its URL, nor for want of memory
+-- the text is refused by the grammar or for a number of its marker: not for its URL, nor for lack of memory
 abbrev pub IsOfText : {T E : Type 0} → Pep508ErrorSource T E → Type 0
 IsOfText (String message) = Unit {0}
 IsOfText (UnsupportedRequirement message) = Unit {0}

@@ -12,7 +12,7 @@ without_url None = None
 without_url (Some (asked.VersionSpecifier list)) = Some (asked.VersionSpecifier list)
 without_url (Some (asked.Url url)) = None
 
--- the one says what the other does
+-- the one has the same parts as the other
 pub record IsCopy {T E : Type 0} (copy original : Requirement T E) : Type 0 where
   pub name : copy.name ≡ original.name
   pub extras : copy.extras.items ≡ original.extras.items

@@ -1,4 +1,4 @@
--- What reading a requirement without a name answers, by its URL and extras and by the marker behind them.
+-- The result of reading a requirement without a name, by its URL and extras and by the marker after them.
 -- `Reads` says what may be returned for the text of a URL without its extras.
 use Rattle.std.specs.Prelude.{◌≡◌, ◌⊎◌, ℕ, Bool, false, List, None, Result, Ok, Err, IfSome}
 use Rattle.std.specs.Str.{skip_leading_whitespace}
@@ -20,16 +20,14 @@ use Rattle.pep508_requirement_text.specs.UnnamedReading.{UnnamedFront, IsUnnamed
 use Rattle.pep508_requirement.specs.MarkerBehind.{marker_behind}
 use Rattle.pep508_requirement.specs.declared.unnamed.UnnamedRequirement.{UnnamedRequirement}
 
--- what may be returned for a text: the URL that is read of it, its variables' values put in, given as the
--- text
+-- what may be returned for a text: the URL that is read from its expansion, given as the text
 abbrev pub ReadsGiven : {T E : Type 0} → (List ℕ → Result T E → Type 0) → (T → List ℕ → T → Type 0)
     → Variables → List ℕ → Result T E → Type 0
 ReadsGiven {T} {E} Reads IsGiven vars text (Ok url) =
     (read : T) × Reads (expanded vars text) (Ok read) × IsGiven read text url
 ReadsGiven Reads IsGiven vars text (Err error) = Reads (expanded vars text) (Err error)
 
--- the text is read as this requirement, whose marker is a tree of these nodes; it comes from no place that
--- was told
+-- the text is read as this requirement, whose marker is a tree of these nodes; it has no origin
 pub record IsUnnamedRead {T E : Type 0} (Reads : List ℕ → Result T E → Type 0) (nodes : List NodeRecord)
     (text : List ℕ) (r : UnnamedRequirement T E) : Type 0 where
   pub front : UnnamedFront
@@ -42,7 +40,7 @@ pub record IsUnnamedRead {T E : Type 0} (Reads : List ℕ → Result T E → Typ
   pub tree : IsTreeOf nodes r.marker marker.formula
   pub origin : r.origin ≡ None
 
--- of the URL this error is told, and not for want of memory
+-- the URL has this error, which is not for lack of memory
 pub record IsUnnamedUrlRefused {T E : Type 0} (Reads : List ℕ → Result T E → Type 0) (lacks : E → Bool)
     (text : List ℕ) (error : E) : Type 0 where
   pub front : UnnamedFront
@@ -51,8 +49,8 @@ pub record IsUnnamedUrlRefused {T E : Type 0} (Reads : List ℕ → Result T E �
   pub reads : Reads front.url (Err error)
   pub told : lacks error ≡ false
 
--- the URL and its extras are read, and the marker behind them is refused, for a reason that this kind of
--- refusal tells
+-- the URL and its extras are read, and the marker after them is refused, for a reason of this kind of
+-- refusal
 pub record IsUnnamedMarkerRefused {T E : Type 0} (Reads : List ℕ → Result T E → Type 0) (text : List ℕ)
     (kind : RefusalKind) : Type 0 where
   pub front : UnnamedFront
@@ -64,7 +62,7 @@ pub record IsUnnamedMarkerRefused {T E : Type 0} (Reads : List ℕ → Result T 
   pub is_marker : marker_behind (skip_leading_whitespace rest) ≡ Err refused
   pub fits : Fits kind refused
 
--- why a text is refused, by what its error says
+-- why a text is refused, by its error
 abbrev pub UnnamedRefusedBy : {T E : Type 0} → (List ℕ → Result T E → Type 0) → (E → Bool) → List ℕ
     → Pep508ErrorSource T E → Type 0
 UnnamedRefusedBy Reads lacks text sources.Memory = Unit {0}
@@ -80,7 +78,7 @@ pub record IsUnnamedRefused {T E : Type 0} (Reads : List ℕ → Result T E → 
   pub cause : UnnamedRefusedBy Reads lacks text error.message
   pub input : IfSome (told_error error) (λ fault. fault.input ≡ text)
 
--- what reading the text answers, with these nodes afterwards
+-- the results of reading the text, with these nodes afterwards
 abbrev pub ReadsUnnamedRequirement : {T E : Type 0} → (List ℕ → Result T E → Type 0) → (E → Bool)
     → List NodeRecord → List ℕ → Result (UnnamedRequirement T E) (Pep508Error T E) → Type 0
 ReadsUnnamedRequirement Reads lacks nodes text (Ok r) = IsUnnamedRead Reads nodes text r

@@ -1,4 +1,4 @@
-//! What requirements answer for environments and extras.
+//! Evaluating requirements for environments and extras.
 
 ghost use Rattle.std.specs.Prelude.{◌≡◌, ◌↔◌, IsTrue, IfOk, IfErr, map, option_copied, None};
 ghost use Rattle.pep508_tree.specs.Meaning.{IsTree, holds, diagram_of};
@@ -16,8 +16,8 @@ use pep508_url::{Pep508Url, UnnamedRequirementUrl};
 use std::alloc::{AllocError, Global};
 
 impl<T: Pep508Url> Requirement<T> {
-    /// Whether the requirement is meant for an environment with extras, by its marker. Takes no memory, and
-    /// costs what `MarkerTree::evaluate` does.
+    /// Returns whether the requirement applies to an environment with extras, by its marker. Takes no
+    /// memory, and costs what `MarkerTree::evaluate` does.
     pub fn evaluate_markers(
         &self,
         interner: &Interner,
@@ -31,8 +31,9 @@ impl<T: Pep508Url> Requirement<T> {
         self.marker.evaluate(interner, environment, extras)
     }
 
-    /// Whether some environment has the requirement meant with just these extras; the versions are not looked
-    /// at. Costs what `MarkerTree::evaluate_extras` does, and may want memory as that does.
+    /// Returns whether the requirement applies to some environment with just these extras; the versions are
+    /// not looked at. Costs what `MarkerTree::evaluate_extras` does, and may run out of memory as that
+    /// does.
     pub fn evaluate_extras_and_python_version(
         &self,
         alloc: Global,
@@ -48,8 +49,8 @@ impl<T: Pep508Url> Requirement<T> {
             .evaluate_extras_and_python_version(alloc, interner, extras, python_versions)
     }
 
-    /// `evaluate_markers`, and the warnings of the evaluation in their order. Takes memory for them, and
-    /// costs what `MarkerTree::evaluate_collect_warnings` does.
+    /// Returns `evaluate_markers`, and the warnings of the evaluation in their order. Takes memory for
+    /// them, and costs what `MarkerTree::evaluate_collect_warnings` does.
     pub fn evaluate_markers_and_report(
         &self,
         alloc: Global,
@@ -70,8 +71,8 @@ impl<T: Pep508Url> Requirement<T> {
 }
 
 impl<Url: UnnamedRequirementUrl> UnnamedRequirement<Url> {
-    /// Whether the requirement is meant for an environment with extras, by its marker. Takes no memory, and
-    /// costs what `MarkerTree::evaluate` does.
+    /// Returns whether the requirement applies to an environment with extras, by its marker. Takes no
+    /// memory, and costs what `MarkerTree::evaluate` does.
     pub fn evaluate_markers(
         &self,
         interner: &Interner,
@@ -85,8 +86,8 @@ impl<Url: UnnamedRequirementUrl> UnnamedRequirement<Url> {
         self.marker.evaluate(interner, environment, extras)
     }
 
-    /// `evaluate_markers` where there is an environment, and else whether some environment has the requirement
-    /// meant with just these extras, for which alone it may want memory.
+    /// Returns `evaluate_markers` where there is an environment, and else whether the requirement applies
+    /// to some environment with just these extras, for which alone it may run out of memory.
     pub fn evaluate_optional_environment(
         &self,
         alloc: Global,

@@ -1,4 +1,4 @@
-//! Requirements that are meant with an extra alone.
+//! Requirements that apply with an extra only.
 
 ghost use Rattle.std.specs.Prelude.{◌≡◌, ◌&&◌, IfOk};
 ghost use Rattle.pep508_diagram.specs.Question.{Valuation};
@@ -13,8 +13,8 @@ use pep508_url::Pep508Url;
 use std::alloc::{AllocError, Global};
 
 impl<T: Pep508Url> Requirement<T> {
-    /// The requirement, meant where it was and the extra is there: its marker and `extra == name`. The only
-    /// refusal is want of memory, and earlier trees mean what they meant, refused or not. No conjunction is
+    /// Returns the requirement restricted to an extra: its marker and `extra == name`. The only error is
+    /// lack of memory, and earlier trees keep their meaning, also after an error. No conjunction is
     /// counted; it costs what one with a tree of one node does.
     pub fn with_extra_marker(
         self,

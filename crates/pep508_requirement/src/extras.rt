@@ -10,15 +10,19 @@ use pep508_requirement_text::read_extras;
 use pep508_url::Pep508Url;
 use std::alloc::{AllocError, Global};
 
-/// The extras that a requirement asks for, in the order given.
+/// The extras that a requirement requests, in the order given.
 #[derive(Debug, PartialEq, Eq, Hash, Drop)]
 pub struct Extras(Vec<ExtraName>);
 
 impl Extras {
-    /// The extras at the front of a text, as `[security,tests]`; none where no bracket stands there. What
-    /// follows them is not looked at (PEP 508, "Grammar").
+    /// Reads the extras at the front of a text, as `[security,tests]`; none where no bracket is there. The
+    /// text after them is ignored (PEP 508, "Grammar").
     ///
-    /// Linear in the extras; takes memory for them and for an error, and none where no bracket stands there.
+    /// Linear in the extras; takes memory for them and for an error, and none where no bracket is there.
+    ///
+    /// # Errors
+    /// `String` with the first fault where the bracket holds something else than names, or isn't closed;
+    /// `Memory` where memory ran out.
     pub fn parse<T: Pep508Url>(alloc: Global, text: &str) -> Result<Extras, Pep508Error<T>>
         ensures read { ReadsExtras text.now result }
         ensures none { begins_by (λ c. c == 91) (chars text.now) ≡ false → IsOk result }
@@ -29,14 +33,14 @@ impl Extras {
         }
     }
 
-    /// The names, in the order given.
+    /// Returns the names, in the order given.
     pub fn as_slice(&self) -> &[ExtraName]
         ensures { result.now ≡ self.now.0.items }
     {
         self.0.as_slice()
     }
 
-    /// A copy, in memory of its own.
+    /// Returns a copy, in memory of its own.
     pub fn try_clone(&self, alloc: Global) -> Result<Self, AllocError>
         ensures { IfOk result (λ copy. copy.0.items ≡ self.now.0.items) }
     {

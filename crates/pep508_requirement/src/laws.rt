@@ -1,5 +1,4 @@
-//! Laws over the definitions that the contracts cite. The functions do nothing: each one's contract is its
-//! law.
+//! Laws of reading requirements. The functions do nothing: each one's contract is its law.
 
 ghost use Rattle.std.specs.Prelude.{◌≡◌, ℕ, List, Option, Ok};
 ghost use Rattle.std.specs.Str.{skip_leading_whitespace};
@@ -23,8 +22,8 @@ use pep508_requirement_text::laws::{
 };
 use pep508_url::{Pep508Url, UnnamedRequirementUrl};
 
-/// A requirement that is read of a text is written there as the grammar has it (PEP 508, "Grammar"): a front
-/// that asks for what the requirement does, and a marker of which it has a tree.
+/// A requirement that is read from a text is written there as the grammar has it (PEP 508, "Grammar"): a
+/// front with the requirement's parts, and a marker of which it has a tree.
 pub fn a_read_requirement_is_written<T: Pep508Url>()
     ensures { (vars : Variables) (directory : Option (List ℕ)) (nodes : List NodeRecord) (text : List ℕ)
         (r : _) → IsRead (λ url. T.reads vars url directory) nodes text r
@@ -47,7 +46,7 @@ pub fn a_written_requirement_is_read()
     a_written_marker_is_read();
 }
 
-/// A text that is written as the grammar has it is refused for its URL alone, or for want of memory.
+/// A text that is written as the grammar has it is refused only for its URL, or for lack of memory.
 pub fn a_written_requirement_is_not_refused<T: Pep508Url>()
     ensures { (vars : Variables) (directory : Option (List ℕ)) (text : List ℕ) (source : _)
         → RefusedBy (λ url. T.reads vars url directory) T.lacks_memory vars text source → IsOfText source
@@ -67,7 +66,7 @@ pub fn a_text_has_one_requirement()
     a_written_marker_is_read();
 }
 
-/// A requirement without a name that is read of a text is written there as the grammar has it.
+/// A requirement without a name that is read from a text is written there as the grammar has it.
 pub fn a_read_unnamed_requirement_is_written<U: UnnamedRequirementUrl>()
     ensures { (vars : Variables) (directory : Option (List ℕ)) (nodes : List NodeRecord) (text : List ℕ)
         (r : _)
@@ -94,7 +93,7 @@ pub fn a_written_unnamed_requirement_is_read()
     a_written_marker_is_read();
 }
 
-/// A text without a name that is written as the grammar has it is refused for its URL alone, or for want of
+/// A text without a name that is written as the grammar has it is refused only for its URL, or for lack of
 /// memory.
 pub fn a_written_unnamed_requirement_is_not_refused<U: UnnamedRequirementUrl>()
     ensures { (vars : Variables) (directory : Option (List ℕ)) (text : List ℕ) (source : _)

@@ -7,6 +7,7 @@ mod extra_marker;
 mod extras;
 pub mod laws;
 mod left;
+mod marked;
 mod reading;
 mod requirement;
 mod unnamed;
@@ -15,6 +16,7 @@ mod unnamed_url;
 mod version_or_url;
 
 pub use extras::Extras;
+pub use marked::MarkedRequirement;
 pub use pep508_name::RequirementOrigin;
 pub use requirement::Requirement;
 pub use unnamed::UnnamedRequirement;

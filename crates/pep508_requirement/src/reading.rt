@@ -1,4 +1,10 @@
 //! Reading requirements.
+//!
+//! A requirement is read in two parts: its front, which needs no type of URLs, and then its URL and the
+//! rest. So the grammar and its laws speak of texts alone, and one relation (`ReadsRequirement`) joins them
+//! with what the type of URLs reads. The warnings of its marker have a clause of their own
+//! (`TakesWarnings`): both clauses speak of one marker, and a call without a reporter has the relation
+//! alone.
 
 ghost use Rattle.std.specs.Prelude.{◌≡◌, chars, IfSome, IfErr, None, OnOk, option_copied};
 ghost use Rattle.serde_json.specs.View.{view};
@@ -8,38 +14,41 @@ ghost use Rattle.std.specs.Str.{skip_leading_whitespace};
 ghost use Rattle.pep508_url.specs.Vars.{IsAbsolute};
 ghost use Rattle.pep508_error.specs.Cursors.{rest_of, IsBehind};
 ghost use Rattle.pep508_tree.specs.Meaning.{Extends};
-ghost use Rattle.pep508_marker_read.specs.MarkerOutcome.{ReadsMarker};
+ghost use Rattle.pep508_marker_read.specs.MarkerOutcome.{SaysMarker};
 ghost use Rattle.pep508_requirement_text.specs.FrontOutcome.{IsPlain};
 ghost use Rattle.pep508_error.specs.Refusals.{IsOf};
+ghost use Rattle.pep508_requirement.specs.MarkedReading.{ReadsMarked};
 ghost use Rattle.pep508_requirement.specs.MarkerBehind.{marker_behind, TakesWarnings};
 ghost use Rattle.pep508_requirement.specs.Pieces.{ReadsAsked, ReadsPiece};
 ghost use Rattle.pep508_requirement.specs.RequirementReading.{ReadsRequirement};
 
 use crate::left::{last_mark, refuse_first};
-use crate::{Requirement, VersionOrUrl};
+use crate::{MarkedRequirement, Requirement, VersionOrUrl};
 use pep508_error::{Cursor, Pep508Error, Refusal};
+use pep508_formula::MarkerFormula;
 use pep508_marker::{Reporter, Silent};
-use pep508_marker_read::read_marker;
+use pep508_marker_read::read_formula;
 use pep508_requirement_text::{Front, Source, UrlPiece, read_front};
-use pep508_tree::{Interner, MarkerTree};
+use pep508_tree::Interner;
 use pep508_url::{Pep508Url, Vars};
 use read_outcome::FromValueError;
 use serde_json::Value;
 use std::alloc::{AllocError, Global};
 
 impl<T: Pep508Url> Requirement<T> {
-    /// Reads a requirement, as `requests[security]>=2.8.1,<3 ; python_version < '3.8'` or
-    /// `pip @ https://example.org/pip.whl` (PEP 508, "Grammar"). A URL that is a relative path stands in the
-    /// absolute directory, where there is one. The marker is a tree of the interner, `TRUE` where there is
-    /// none or where none of its comparisons says anything.
+    /// Reads a requirement, as `requests[security]>=2.8.1,<3 ; python_version < '3.8'` or `pip @
+    /// https://example.org/pip.whl` (PEP 508, "Grammar"). A URL that is a relative path is resolved against
+    /// the absolute directory, where there is one. The marker is a tree of the interner, `TRUE` where there
+    /// is none or where all its comparisons are meaningless.
     ///
-    /// A URL, a path or an archive that stands where a name is wanted is refused as `UnsupportedRequirement`,
-    /// a text whose URL is none as `UrlError`, one whose marker has a version number that can't be raised as
-    /// `NumberAtEnd`, and any other that is no requirement as `String`. What is wrong with the front comes
-    /// before the URL's fault, and that before the marker's.
+    /// Linear in the text, but for sorting specifiers and for combining the marker's trees; takes memory
+    /// for what is read and for an error. The nodes of the interner stay, also after an error.
     ///
-    /// Linear in the text, but for bringing specifiers in order and for combining the marker's trees; takes
-    /// memory for what is read and for an error. The nodes of the interner stay, refused or not.
+    /// # Errors
+    /// `UnsupportedRequirement` where a URL, a path or an archive is in the place of a name; `UrlError`
+    /// where the text's URL is invalid; `NumberAtEnd` where the marker has a version number that can't be
+    /// raised; `String` where the text is otherwise not a requirement; `Memory` where memory ran out. A
+    /// fault of the front comes before the URL's, and that before the marker's.
     pub fn parse(
         alloc: Global,
         interner: &mut Interner,
@@ -56,8 +65,11 @@ impl<T: Pep508Url> Requirement<T> {
         Requirement::parse_reporter(alloc, interner, vars, text, working_dir, &mut Silent)
     }
 
-    /// Reads a requirement as `parse` does, and reports the warnings of its marker. Those of a marker that is
-    /// refused may have been reported too, as far as it was read.
+    /// Reads a requirement as `parse` does, and reports the warnings of its marker. Those of a marker that
+    /// is refused may have been reported too, as far as it was read.
+    ///
+    /// # Errors
+    /// Those of `parse`.
     pub fn parse_reporter<R: Reporter>(
         alloc: Global,
         interner: &mut Interner,
@@ -75,32 +87,26 @@ impl<T: Pep508Url> Requirement<T> {
         ensures keeps { Extends interner.old.nodes interner.new.nodes }
         ensures counts { interner.new.conjunctions ≡ interner.old.conjunctions }
     {
-        let (front, rest) = match read_front(alloc, Cursor::new(text), vars) {
-            Ok(found) => found,
-            Err(refusal) => return Err(Pep508Error::of(alloc, refusal)),
-        };
-        let Front {
-            name,
-            extras,
-            source,
-        } = front;
-        let version_or_url = match read_asked(alloc, source, vars, working_dir) {
-            Ok(version_or_url) => version_or_url,
+        let read = match MarkedRequirement::parse_reporter(
+            alloc,
+            vars,
+            text,
+            working_dir,
+            reporter,
+        ) {
+            Ok(read) => read,
             Err(error) => return Err(error),
         };
-        match read_behind(alloc, interner, &version_or_url, rest, reporter) {
-            Ok(marker) => Ok(Requirement {
-                name,
-                extras,
-                version_or_url,
-                marker,
-                origin: None,
-            }),
-            Err(refusal) => Err(Pep508Error::of(alloc, refusal)),
+        match read.with_tree(alloc, interner) {
+            Ok(requirement) => Ok(requirement),
+            Err(_) => Err(Pep508Error::memory(alloc)),
         }
     }
 
-    /// Reads a requirement as `parse` does, with no directory, so that a relative path is refused.
+    /// Reads a requirement as `parse` does, without a directory, so that a relative path is refused.
+    ///
+    /// # Errors
+    /// Those of `parse`.
     pub fn from_str(
         alloc: Global,
         interner: &mut Interner,
@@ -115,7 +121,10 @@ impl<T: Pep508Url> Requirement<T> {
         Requirement::parse(alloc, interner, vars, text, None)
     }
 
-    /// Reads a JSON text as `from_str` does; another value is refused as `Shape`.
+    /// Reads a requirement from a JSON text as `from_str` does.
+    ///
+    /// # Errors
+    /// `Shape` where the value is not a text; `Text` with the error of `from_str`, lack of memory too.
     pub fn from_value(
         alloc: Global,
         interner: &mut Interner,
@@ -139,7 +148,73 @@ impl<T: Pep508Url> Requirement<T> {
     }
 }
 
-/// What is asked for by what was read at the front.
+impl<T: Pep508Url> MarkedRequirement<T> {
+    /// Reads a requirement as `Requirement::parse` does, without making a tree of its marker: it accepts
+    /// the same texts, and reports the same errors for others.
+    ///
+    /// Linear in the text, but for sorting specifiers and for the versions that a marker's key is compared
+    /// with at once, of which n take O(n log n); takes memory for what is read and for an error.
+    ///
+    /// # Errors
+    /// Those of `Requirement::parse`.
+    pub fn parse(
+        alloc: Global,
+        vars: &Vars,
+        text: &str,
+        working_dir: Option<&str>,
+    ) -> Result<Self, Pep508Error<T>>
+        requires { IfSome working_dir (λ directory. IsAbsolute directory.now) }
+        ensures { ReadsMarked (λ url. T.reads vars.now url (option_copied working_dir.entry))
+            T.lacks_memory vars.now text.now result }
+    {
+        MarkedRequirement::parse_reporter(alloc, vars, text, working_dir, &mut Silent)
+    }
+
+    /// Reads a requirement as `parse` does, and reports the warnings of its marker. Those of a marker that
+    /// is refused may have been reported too, as far as it was read.
+    ///
+    /// # Errors
+    /// Those of `Requirement::parse`.
+    pub fn parse_reporter<R: Reporter>(
+        alloc: Global,
+        vars: &Vars,
+        text: &str,
+        working_dir: Option<&str>,
+        reporter: &mut R,
+    ) -> Result<Self, Pep508Error<T>>
+        requires directory { IfSome working_dir (λ directory. IsAbsolute directory.now) }
+        requires can_report { R.can_report reporter.old }
+        ensures answered { ReadsMarked (λ url. T.reads vars.now url (option_copied working_dir.entry))
+            T.lacks_memory vars.now text.now result }
+        ensures warnings { OnOk result (TakesWarnings R.takes reporter.old reporter.new text.now) }
+        ensures again { R.can_report reporter.new }
+    {
+        let (front, rest) = match read_front(alloc, Cursor::new(text), vars) {
+            Ok(found) => found,
+            Err(refusal) => return Err(Pep508Error::of(alloc, refusal)),
+        };
+        let Front {
+            name,
+            extras,
+            source,
+        } = front;
+        let version_or_url = match read_asked(alloc, source, vars, working_dir) {
+            Ok(version_or_url) => version_or_url,
+            Err(error) => return Err(error),
+        };
+        match read_behind(alloc, &version_or_url, rest, reporter) {
+            Ok(formula) => Ok(MarkedRequirement {
+                name,
+                extras,
+                version_or_url,
+                formula,
+            }),
+            Err(refusal) => Err(Pep508Error::of(alloc, refusal)),
+        }
+    }
+}
+
+/// Returns the specifiers or the URL that the front requires.
 fn read_asked<T: Pep508Url>(
     alloc: Global,
     source: Source<'_>,
@@ -160,7 +235,7 @@ fn read_asked<T: Pep508Url>(
     }
 }
 
-/// The URL that a piece of the text is.
+/// Reads the URL in a piece of the text.
 fn read_piece<T: Pep508Url>(
     alloc: Global,
     piece: UrlPiece<'_>,
@@ -177,33 +252,31 @@ fn read_piece<T: Pep508Url>(
     }
 }
 
-/// The marker behind a front, which always holds where nothing is left; or why what is left is none.
+/// Reads the formula of the marker after a front; one without comparisons where nothing is left. Refuses
+/// what is left where it is not a marker.
 fn read_behind<'a, T: Pep508Url, R: Reporter>(
     alloc: Global,
-    interner: &mut Interner,
     version_or_url: &Option<VersionOrUrl<T>>,
     rest: Cursor<'a>,
     reporter: &mut R,
-) -> Result<MarkerTree, Refusal<'a>>
+) -> Result<MarkerFormula, Refusal<'a>>
     requires { R.can_report reporter.old }
-    ensures read { ReadsMarker R.takes reporter.old reporter.new interner.new.nodes result
+    ensures read { SaysMarker R.takes reporter.old reporter.new result
         (marker_behind (skip_leading_whitespace (chars (rest_of rest.entry)))) }
     ensures again { R.can_report reporter.new }
-    ensures keeps { Extends interner.old.nodes interner.new.nodes }
-    ensures counts { interner.new.conjunctions ≡ interner.old.conjunctions }
     ensures of { IfErr result (IsOf rest.entry) }
 {
     let left = rest.after_whitespace();
     let Some((first, inside)) = left.split_first() else {
-        return Ok(MarkerTree::TRUE);
+        return Ok(MarkerFormula::new(alloc));
     };
     if first == ';' {
-        return read_marker(alloc, interner, inside, reporter);
+        return read_formula(alloc, inside, reporter);
     }
     Err(refuse_left(alloc, version_or_url, rest, left, first))
 }
 
-/// The refusal of a character that is left, and begins no marker.
+/// Returns the refusal of a character that is left and begins no marker.
 fn refuse_left<'a, T: Pep508Url>(
     alloc: Global,
     version_or_url: &Option<VersionOrUrl<T>>,
@@ -221,7 +294,7 @@ fn refuse_left<'a, T: Pep508Url>(
     }
 }
 
-/// The `;` or `#` with which the print of the URL ends, where there is one that does.
+/// Returns the `;` or `#` with which the print of the URL ends, where there is one that does.
 fn printed_mark<T: Pep508Url>(
     alloc: Global,
     version_or_url: &Option<VersionOrUrl<T>>,

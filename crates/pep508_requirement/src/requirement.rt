@@ -11,23 +11,23 @@ use pep508_tree::MarkerTree;
 use pep508_url::{Pep508Url, VerbatimUrl};
 use std::alloc::{AllocError, Global};
 
-/// A package that is wanted: its name and extras, the versions or the URL that will do, and for which
-/// environments (PEP 508).
+/// A required package: its name and extras, the accepted versions or the URL, and the environments to which
+/// it applies (PEP 508).
 #[derive(Debug, PartialEq, Eq, Hash, Drop)]
 pub struct Requirement<T: Pep508Url = VerbatimUrl> {
     pub name: PackageName,
     /// In the order given.
     pub extras: Vec<ExtraName>,
-    /// Nothing where any version will do.
+    /// `None` where any version is accepted.
     pub version_or_url: Option<VersionOrUrl<T>>,
     /// In the interner that the requirement was read with.
     pub marker: MarkerTree,
-    /// The file or project that the requirement stands in, where that was told.
+    /// The file or project that contains the requirement, where that is known.
     pub origin: Option<RequirementOrigin>,
 }
 
 impl<T: Pep508Url> Requirement<T> {
-    /// Takes the URL away, so that any version will do; specifiers stay. Takes no memory.
+    /// Removes the URL, so that any version is accepted; specifiers stay. Takes no memory.
     pub fn clear_url(&mut self)
         ensures { self.new ≡ record self.old { version_or_url = without_url self.old.version_or_url } }
     {
@@ -36,7 +36,7 @@ impl<T: Pep508Url> Requirement<T> {
         }
     }
 
-    /// The requirement, with this origin in place of its own. Takes no memory.
+    /// Returns the requirement with this origin in place of its own. Takes no memory.
     pub fn with_origin(self, origin: RequirementOrigin) -> Self
         ensures { result ≡ record self { origin = Some origin } }
     {
@@ -48,7 +48,7 @@ impl<T: Pep508Url> Requirement<T> {
 }
 
 impl Requirement<VerbatimUrl> {
-    /// A copy, in memory of its own.
+    /// Returns a copy, in memory of its own.
     pub fn try_clone(&self, alloc: Global) -> Result<Self, AllocError>
         ensures { IfOk result (λ copy. IsCopy copy self.now) }
     {

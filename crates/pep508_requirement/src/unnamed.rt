@@ -10,7 +10,7 @@ use pep508_tree::MarkerTree;
 use pep508_url::{UnnamedRequirementUrl, VerbatimUrl};
 use std::alloc::{AllocError, Global};
 
-/// A package that is wanted, which a URL or a path alone names, as `pip` takes it beside PEP 508's
+/// A required package that is given by a URL or a path alone, as `pip` accepts besides PEP 508's
 /// requirements.
 #[derive(Debug, PartialEq, Eq, Hash, Drop)]
 pub struct UnnamedRequirement<Url: UnnamedRequirementUrl = VerbatimUrl> {
@@ -19,12 +19,12 @@ pub struct UnnamedRequirement<Url: UnnamedRequirementUrl = VerbatimUrl> {
     pub extras: Vec<ExtraName>,
     /// In the interner that the requirement was read with.
     pub marker: MarkerTree,
-    /// The file or project that the requirement stands in, where that was told.
+    /// The file or project that contains the requirement, where that is known.
     pub origin: Option<RequirementOrigin>,
 }
 
 impl<Url: UnnamedRequirementUrl> UnnamedRequirement<Url> {
-    /// The requirement, with this origin in place of its own. Takes no memory.
+    /// Returns the requirement with this origin in place of its own. Takes no memory.
     pub fn with_origin(self, origin: RequirementOrigin) -> Self
         ensures { result ≡ record self { origin = Some origin } }
     {
@@ -36,7 +36,7 @@ impl<Url: UnnamedRequirementUrl> UnnamedRequirement<Url> {
 }
 
 impl UnnamedRequirement<VerbatimUrl> {
-    /// A copy, in memory of its own.
+    /// Returns a copy, in memory of its own.
     pub fn try_clone(&self, alloc: Global) -> Result<Self, AllocError>
         ensures { IfOk result (λ copy. IsUnnamedCopy copy self.now) }
     {

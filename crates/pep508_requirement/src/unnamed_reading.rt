@@ -25,16 +25,18 @@ use std::alloc::Global;
 
 impl<Url: UnnamedRequirementUrl> UnnamedRequirement<Url> {
     /// Reads a requirement without a name, as `https://example.org/pip.whl` or `./pip[dev] ; os_name ==
-    /// 'nt'`: a URL or a path, extras at its end, and a marker. A relative path stands in the absolute
-    /// directory, where there is one. The URL is given as its text, with variables' names in place of their
-    /// values, without the extras. The marker and its warnings are those of `Requirement::parse_reporter`.
-    ///
-    /// A text whose URL is none is refused as `UrlError`, one whose marker has a version number that can't be
-    /// raised as `NumberAtEnd`, and any other that is no such requirement as `String`. What is wrong with the
-    /// extras comes before the URL's fault, and that before the marker's.
+    /// 'nt'`: a URL or a path, extras at its end, and a marker. A relative path is resolved against the
+    /// absolute directory, where there is one. The URL keeps its text as given, with variables' names in
+    /// place of their values, without the extras. The marker and its warnings are those of
+    /// `Requirement::parse_reporter`.
     ///
     /// Linear in the text, but for combining the marker's trees; takes memory for what is read and for an
-    /// error. The nodes of the interner stay, refused or not.
+    /// error. The nodes of the interner stay, also after an error.
+    ///
+    /// # Errors
+    /// `UrlError` where the text's URL is invalid; `NumberAtEnd` where the marker has a version number that
+    /// can't be raised; `String` where the text is otherwise not such a requirement; `Memory` where memory
+    /// ran out. A fault of the extras comes before the URL's, and that before the marker's.
     pub fn parse<R: Reporter>(
         alloc: Global,
         interner: &mut Interner,
@@ -75,8 +77,11 @@ impl<Url: UnnamedRequirementUrl> UnnamedRequirement<Url> {
         }
     }
 
-    /// Reads a requirement as `parse` does, with no directory, so that a relative path is refused, and
-    /// reports nothing.
+    /// Reads a requirement as `parse` does, without a directory, so that a relative path is refused, and
+    /// drops the warnings.
+    ///
+    /// # Errors
+    /// Those of `parse`.
     pub fn from_str(
         alloc: Global,
         interner: &mut Interner,
@@ -93,7 +98,7 @@ impl<Url: UnnamedRequirementUrl> UnnamedRequirement<Url> {
     }
 }
 
-/// The URL of a text, given as the text; a fault is shown at the whole piece.
+/// Reads the URL of a text, given as the text; a fault is shown at the whole piece.
 fn read_given<U: UnnamedRequirementUrl>(
     alloc: Global,
     whole: UrlPiece<'_>,
@@ -122,8 +127,8 @@ fn read_given<U: UnnamedRequirementUrl>(
     }
 }
 
-/// The marker behind a URL and its extras, which always holds where nothing is left; or why what is left is
-/// none.
+/// Reads the marker after a URL and its extras, which always holds where nothing is left. Refuses what is
+/// left where it is not a marker.
 fn read_behind<'a, U: UnnamedRequirementUrl, R: Reporter>(
     alloc: Global,
     interner: &mut Interner,

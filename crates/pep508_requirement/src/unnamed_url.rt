@@ -7,8 +7,8 @@ ghost use Rattle.pep508_requirement.specs.UnnamedUrls.{ReadsUnnamed};
 use pep508_url::{Place, UnnamedRequirementUrl, place_of};
 use std::alloc::{AllocError, Global};
 
-/// The URL of a text whose variables have their values, or why there is none. Want of memory before the text
-/// is read as a URL or a path is told apart.
+/// Reads the URL of a text whose variables are expanded. Lack of memory before the text is read as a URL or
+/// a path is the outer error.
 #[tactic(auto, unfolding(crate::specs::UnnamedUrls::ReadsUnnamed))]
 pub(crate) fn read_unnamed_url<U: UnnamedRequirementUrl>(
     alloc: Global,
@@ -26,7 +26,7 @@ pub(crate) fn read_unnamed_url<U: UnnamedRequirementUrl>(
     }
 }
 
-/// The URL of a path, which is absolute or stands in the absolute directory.
+/// Returns the URL of a path, which is absolute or relative to the absolute directory.
 fn read_path<U: UnnamedRequirementUrl>(
     alloc: Global,
     path: &str,

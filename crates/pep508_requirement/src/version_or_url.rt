@@ -1,11 +1,11 @@
-//! What a requirement asks for beside its name and extras.
+//! The specifiers or the URL of a requirement.
 
 use pep440_specifier_list::VersionSpecifiers;
 use pep508_url::{Pep508Url, VerbatimUrl};
 use std::alloc::{AllocError, Global};
 use std::fmt;
 
-/// The specifiers that a requirement's version has to meet, or the URL that it is to be had from.
+/// The specifiers that a requirement's version has to meet, or the URL from which it is installed.
 #[derive(Debug, PartialEq, Eq, PartialOrd, Ord, Hash, Drop)]
 pub enum VersionOrUrl<T: Pep508Url = VerbatimUrl> {
     VersionSpecifier(VersionSpecifiers),
@@ -15,7 +15,7 @@ pub enum VersionOrUrl<T: Pep508Url = VerbatimUrl> {
 impl VersionOrUrl<VerbatimUrl> {
     ghost use Rattle.std.specs.Prelude.{◌≡◌, IfOk};
 
-    /// A copy, in memory of its own.
+    /// Returns a copy, in memory of its own.
     pub fn try_clone(&self, alloc: Global) -> Result<Self, AllocError>
         ensures { IfOk result (λ copy. copy ≡ self.now) }
     {
@@ -28,7 +28,7 @@ impl VersionOrUrl<VerbatimUrl> {
     }
 }
 
-/// The same, lent.
+/// The specifiers or the URL of a requirement, borrowed.
 #[derive(Debug, PartialEq, Eq, Hash)]
 pub enum VersionOrUrlRef<'a, T: Pep508Url = VerbatimUrl> {
     VersionSpecifier(&'a VersionSpecifiers),
@@ -47,7 +47,7 @@ impl<'a, T: Pep508Url> VersionOrUrlRef<'a, T> {
     ghost use Rattle.std.specs.Prelude.{◌≡◌};
     ghost use Rattle.pep508_requirement.specs.Asked.{lent};
 
-    /// The specifiers or the URL of a requirement.
+    /// Returns the borrowed specifiers or URL of a requirement.
     pub fn from_ref(value: &'a VersionOrUrl<T>) -> VersionOrUrlRef<'a, T>
         ensures { lent result ≡ value.now }
     {

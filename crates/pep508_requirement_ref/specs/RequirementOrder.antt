@@ -30,8 +30,8 @@ origin_cmp (Project path name) Workspace = Less
 origin_cmp Workspace Workspace = Equal
 origin_cmp Workspace origin = Greater
 
--- the name; the extras in their order; what is asked for, nothing before all else; what the marker means; the
--- origin, none before all others
+-- the name; the extras in their order; the specifiers or URL, none before all else; the meaning of the
+-- marker; the origin, none before all others
 abbrev pub requirement_cmp : {T E : Type 0} → (T → T → Ordering) → RequirementRef T E → RequirementRef T E
     → Ordering
 requirement_cmp url_cmp a b =

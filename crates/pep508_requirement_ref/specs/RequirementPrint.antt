@@ -23,7 +23,7 @@ source_text (Url url) = codes " @ " ++ url
 abbrev pub front_text : Front → List ℕ
 front_text front = front.name ++ extras_text front.extras ++ source_text front.source
 
--- a marker's text behind a `;`, where there is one
+-- a marker's text after a `;`, where there is one
 abbrev pub marker_part : Option (List ℕ) → List ℕ
 marker_part None = []
 marker_part (Some text) = codes " ; " ++ text

@@ -1,4 +1,5 @@
--- What views of requirements show, and what they print. `output` says what a URL prints, if it says anything.
+-- The parts of requirements that views show, and their print. `output` is the print of a URL, if it has
+-- one.
 use Rattle.std.specs.Prelude.{◌≡◌, ℕ, List, Option, Some, None, option_map}
 use Rattle.pep508_diagram.specs.Question.{Valuation, truth}
 use Rattle.pep508_tree.specs.Meaning.{NodeRecord}
@@ -35,7 +36,7 @@ pub record IsUnnamedViewOf {T E : Type 0} (nodes : List NodeRecord) (r : Unnamed
 abbrev pub marker_text_in : MarkerTreeRef → Option (List ℕ)
 marker_text_in marker = marker_text (diagram_in (tree_in marker))
 
--- what is asked for, a URL by its print
+-- the specifiers or the URL, a URL by its print
 abbrev pub source_of : {T E : Type 0} → (T → Option (List ℕ)) → Option (VersionOrUrl T E) → Option Source
 source_of output None = Some Any
 source_of output (Some (asked.VersionSpecifier list)) = Some (Specifiers list)
@@ -56,8 +57,7 @@ abbrev pub printed_unnamed : {T E : Type 0} → (T → Option (List ℕ)) → Un
 printed_unnamed output shown =
     option_map (λ url. unnamed_text url shown.extras.now (marker_text_in shown.marker)) (output shown.url.now)
 
--- they have the same name, extras and specifiers or URL, and markers of one meaning; origins are not looked
--- at
+-- they have the same name, extras and specifiers or URL, and markers of one meaning; origins may differ
 pub record SayTheSame {T E : Type 0} (a b : RequirementRef T E) : Type 0 where
   pub name : a.name.now ≡ b.name.now
   pub extras : a.extras.now ≡ b.extras.now

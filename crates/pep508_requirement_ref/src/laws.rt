@@ -1,4 +1,4 @@
-//! Laws over the definitions. The functions do nothing: each one's contract is its law.
+//! Laws of printed requirements. The functions do nothing: each one's contract is its law.
 
 ghost use Rattle.std.specs.Prelude.{◌≡◌};
 ghost use Rattle.pep508_requirement_ref.specs.RequirementOrder.{requirement_cmp};
@@ -17,7 +17,7 @@ pub fn the_order_is_by_parts<'a, T: Pep508Url + Ord>(
         ≡ requirement_cmp T.cmp left.now right.now }
 {}
 
-/// Requirements of any two interners that say the same print the same.
+/// Requirements of any two interners that mean the same print the same.
 #[tactic(auto, using(crate::proofs::Alike::alike_print))]
 pub fn what_says_the_same_prints_the_same<'a, T: Pep508Url>(
     left: &RequirementRef<'a, T>,

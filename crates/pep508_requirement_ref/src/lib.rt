@@ -1,4 +1,4 @@
-//! Requirements (PEP 508) with the interner of their markers, which print, and compare by what they mean.
+//! Requirements (PEP 508) with the interner of their markers, which print, and compare by their meanings.
 #![tactic(auto)]
 
 pub mod laws;

@@ -12,7 +12,7 @@ use pep508_tree_ref::MarkerTreeRef;
 use pep508_url::Pep508Url;
 use std::fmt;
 
-/// A name, and more with a comma before each.
+/// A printer of a name, and of more with a comma before each.
 #[derive(Clone, Copy)]
 struct Names<'a> {
     first: &'a ExtraName,
@@ -32,7 +32,7 @@ impl fmt::Display for Names<'_> {
     }
 }
 
-/// Extras in brackets, where there are any.
+/// A printer of extras in brackets, where there are any.
 #[derive(Clone, Copy)]
 pub(crate) struct ExtrasPart<'a> {
     pub(crate) names: &'a [ExtraName],
@@ -50,7 +50,7 @@ impl fmt::Display for ExtrasPart<'_> {
     }
 }
 
-/// Specifiers with bare commas between them, or a URL, where one of both is there.
+/// A printer of specifiers with bare commas between them, or of a URL, where there is one or the other.
 #[derive(Clone, Copy)]
 pub(crate) struct SourcePart<'a, T: Pep508Url> {
     pub(crate) asked: &'a Option<VersionOrUrl<T>>,
@@ -68,7 +68,7 @@ impl<T: Pep508Url> fmt::Display for SourcePart<'_, T> {
     }
 }
 
-/// A marker's text behind a `;`, where there is one.
+/// A printer of a marker's text after a `;`, where there is one.
 #[derive(Clone, Copy)]
 pub(crate) struct MarkerPart<'a> {
     pub(crate) marker: &'a MarkerTreeRef<'a>,

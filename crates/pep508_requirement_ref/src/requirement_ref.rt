@@ -1,4 +1,9 @@
 //! Requirements with the interner of their markers.
+//!
+//! `RequirementRef` and `UnnamedRequirementRef` are borrowed and not `Copy`: each holds a `MarkerTreeRef`,
+//! and the toolchain copies no struct with a ghost field out of a field or a reference in another crate.
+//! They keep references to the requirement's fields, so that equality and order are derived, field by
+//! field.
 
 ghost use Rattle.std.specs.Prelude.{IfOk, IfSome, ◌≡◌, Some};
 ghost use Rattle.serde_json.specs.View.{view};
@@ -20,13 +25,13 @@ use serde_json::Value;
 use std::alloc::{AllocError, Global};
 use std::fmt;
 
-/// A requirement with the interner that it was read with, so that it can be printed, and compared with those
-/// of other interners (PEP 508).
+/// A requirement with the interner that it was read with, so that it can be printed, and compared with
+/// those of other interners (PEP 508).
 ///
-/// Two of them compare by their fields in order, the marker by what it means and not by its place in an
+/// Two of them compare by their fields in order, the marker by its meaning and not by its place in an
 /// interner, as `MarkerTreeRef` does. It prints as `requests[security]>=2.8.1,<3 ; os_name == 'nt'`, a URL
-/// behind ` @ `, and a marker only where it doesn't always hold. The marker's text is made while it is
-/// printed, and where memory for it is refused, printing fails with `fmt::Error`.
+/// after ` @ `, and a marker only where it doesn't always hold. The marker's text is made while it is
+/// printed, and where memory for it runs out, printing fails with `fmt::Error`.
 #[derive(PartialEq, Eq, PartialOrd, Ord, Drop)]
 pub struct RequirementRef<'a, T: Pep508Url = VerbatimUrl> {
     name: &'a PackageName,
@@ -37,8 +42,8 @@ pub struct RequirementRef<'a, T: Pep508Url = VerbatimUrl> {
 }
 
 impl<'a, T: Pep508Url> RequirementRef<'a, T> {
-    /// A requirement with its interner, and what gives memory where its marker is printed or compared. Takes
-    /// none.
+    /// Returns a requirement with its interner, and the allocator by which its marker is printed or
+    /// compared. Takes no memory.
     pub fn new(
         alloc: Global,
         interner: &'a Interner,
@@ -56,7 +61,7 @@ impl<'a, T: Pep508Url> RequirementRef<'a, T> {
         }
     }
 
-    /// No question is asked in vain in the marker, and each version is in its shortest spelling. Does
+    /// Shows that the marker has no needless question, and each version is in its shortest spelling. Does
     /// nothing.
     pub fn is_canonical(&self)
         ensures canonical { IsCanonical (diagram_in (tree_in self.now.marker)) }
@@ -65,7 +70,7 @@ impl<'a, T: Pep508Url> RequirementRef<'a, T> {
         self.marker.is_canonical()
     }
 
-    /// The print as a JSON text, which `Requirement::from_value` reads. Takes memory for the texts.
+    /// Returns the print as a JSON text, which `Requirement::from_value` reads. Takes memory for the texts.
     pub fn to_value(&self, alloc: Global) -> Result<Value, AllocError>
         ensures { IfOk result (λ value. IfSome (printed T.output self.now) (λ text.
             as_str (view value) ≡ Some text)) }

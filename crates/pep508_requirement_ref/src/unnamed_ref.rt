@@ -20,7 +20,7 @@ use std::fmt;
 ///
 /// It prints as `https://example.org/pip.whl[extra] ; os_name == 'nt'`, the URL and not the text that it
 /// was given as, and a marker only where it doesn't always hold. The marker's text is made while it is
-/// printed, and where memory for it is refused, printing fails with `fmt::Error`.
+/// printed, and where memory for it runs out, printing fails with `fmt::Error`.
 #[derive(Drop)]
 pub struct UnnamedRequirementRef<'a, Url: UnnamedRequirementUrl = VerbatimUrl> {
     url: &'a Url,
@@ -29,8 +29,8 @@ pub struct UnnamedRequirementRef<'a, Url: UnnamedRequirementUrl = VerbatimUrl> {
 }
 
 impl<'a, Url: UnnamedRequirementUrl> UnnamedRequirementRef<'a, Url> {
-    /// A requirement with its interner, and what gives memory for the marker's text where it is printed.
-    /// Takes none.
+    /// Returns a requirement with its interner, and the allocator by which the marker's text is printed.
+    /// Takes no memory.
     pub fn new(
         alloc: Global,
         interner: &'a Interner,
@@ -46,7 +46,7 @@ impl<'a, Url: UnnamedRequirementUrl> UnnamedRequirementRef<'a, Url> {
         }
     }
 
-    /// The print as a JSON text. Takes memory for the texts.
+    /// Returns the print as a JSON text. Takes memory for the texts.
     pub fn to_value(&self, alloc: Global) -> Result<Value, AllocError>
         ensures { IfOk result (λ value. IfSome (printed_unnamed Url.output self.now) (λ text.
             as_str (view value) ≡ Some text)) }

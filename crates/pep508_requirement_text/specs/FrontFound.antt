@@ -1,4 +1,4 @@
--- What a read front is, by what there is to read.
+-- The front that is read, for each reading of the text.
 use Rattle.std.specs.Prelude.{◌≡◌, ℕ, List, Result, Ok, Err}
 use Rattle.pep508_url.specs.Vars.{Variables}
 use Rattle.pep440_specifier_list.specs.Lists.{IsInOrder}
@@ -16,7 +16,7 @@ use Rattle.pep508_requirement_text.specs.declared.source.Source.{Source}
 use Rattle.pep508_requirement_text.specs.declared.source.Source.TheVariants as found
 use Rattle.pep508_requirement_text.specs.declared.front.Front.{Front}
 
--- the same: specifiers, which stand by version, or the text of a URL
+-- the source is that of the text: specifiers, sorted by version, or the text of a URL
 abbrev pub IsSource : Source → said.Source → Type 0
 IsSource found.Any Any = Unit {0}
 IsSource (found.Specifiers list) (Specifiers given) = IsInOrder given list
@@ -34,7 +34,7 @@ pub record IsFront (read : Front) (front : said.Front) : Type 0 where
   pub extras : read.extras.items ≡ front.extras
   pub source : IsSource read.source front.source
 
--- what was returned is the reading: what it says, and the place behind it, or a refusal for its reason
+-- the result is the reading: its value, and the place after it, or a refusal for its reason
 abbrev pub ReadsAs : {X Y : Type 0} → Variables → (X → Y → Type 0) → Result (X × Cursor) Refusal → Reading Y
     → Type 0
 ReadsAs {X} {Y} vars IsSaid (Ok found) reading =
@@ -44,12 +44,12 @@ ReadsAs vars IsSaid (Err refusal) reading = Tells vars refusal.kind reading
 abbrev pub ReadsFront : Variables → Result (Front × Cursor) Refusal → Reading said.Front → Type 0
 ReadsFront vars result reading = ReadsAs vars IsFront result reading
 
--- a URL stands in the text of the place
+-- a URL is in the text of the place
 abbrev pub IsUrlIn : Cursor → Source → Type 0
 IsUrlIn cursor found.Any = Unit {0}
 IsUrlIn cursor (found.Specifiers list) = Unit {0}
 IsUrlIn cursor (found.Url piece) = piece.start.input.now ≡ cursor.input.now
 
--- the list in brackets behind the opening one
+-- the list in brackets after the opening one
 abbrev pub enclosed_at : List ℕ → Reading said.Source
 enclosed_at cs = if_there (cut_around 41 cs) >>= enclosed

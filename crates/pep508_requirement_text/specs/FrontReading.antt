@@ -1,5 +1,5 @@
--- What there is to read at the front of a requirement's text, before its marker: a name, extras, and
--- specifiers or the text of a URL (PEP 508, "Grammar"); or why there is none.
+-- The reading of the front of a requirement's text, before its marker: a name, extras, and specifiers or
+-- the text of a URL (PEP 508, "Grammar"); or why there is none.
 use Rattle.std.specs.Prelude.{ℕ, ◌==◌, ◌||◌, not, Bool, false, if◌then◌else◌, List, [], ◌∷◌, length}
 use Rattle.std.specs.Prelude.{Option, Some, None, Result, Ok, Err, encode_utf8_all}
 use Rattle.std.specs.Char.{is_whitespace}
@@ -14,8 +14,8 @@ use Rattle.pep508_error.specs.Steps.{◌>>=◌}
 use Rattle.pep508_requirement_text.specs.Archives.{is_archive}
 use Rattle.pep508_requirement_text.specs.UrlEnds.{url_split}
 
--- what a name and its extras are asked for with: neither specifiers nor a URL, specifiers in the order given,
--- or the text of a URL
+-- what follows a name and its extras: neither specifiers nor a URL, specifiers in the order given, or the
+-- text of a URL
 pub data Source : Type 0 where
   Any : Source
   Specifiers : List SpecifierRecord → Source
@@ -27,8 +27,8 @@ pub record Front : Type 0 where
   pub extras : List (List ℕ)
   pub source : Source
 
--- Why a text is no requirement: by the grammar; since this run of characters stands where a name, or what may
--- follow one, is wanted; or since the name alone is that of an archive.
+-- Why a text is not a requirement: by the grammar; since this run of characters is in the place of a name,
+-- or of what may follow one; or since the name alone is that of an archive.
 pub data Refused : Type 0 where
   Malformed : Refused
   Nameless : List ℕ → Refused
@@ -65,7 +65,7 @@ abbrev pub names_of : List (List ℕ) → Option (List (List ℕ))
 names_of [] = Some []
 names_of (piece ∷ pieces) = with_name (name_of (trim piece)) (names_of pieces)
 
--- the names between brackets, a comma between each two; white space alone is none
+-- the names between brackets, a comma between each two; no names for white space alone
 unfoldable pub extras_of : List ℕ → Option (List (List ℕ))
 extras_of inside =
     if length (trim inside) == 0 then Some [] else names_of (slice_split (λ b. b == 44) inside)
@@ -108,7 +108,7 @@ if_url parts = if length parts.0 == 0 then Err Malformed else Ok (Url (encode_ut
 abbrev pub begins_operator : ℕ → Bool
 begins_operator c = c == 60 || c == 61 || c == 62 || c == 126 || c == 33
 
--- a name that stands alone
+-- a name without specifiers or a URL
 abbrev pub alone : List ℕ → List ℕ → Reading Source
 alone name cs = if is_archive name then Err Archive else Ok (Any, cs)
 

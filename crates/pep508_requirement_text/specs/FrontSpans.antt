@@ -1,4 +1,4 @@
--- Which part of a text the refusal of a requirement's front shows: so many bytes from a place on.
+-- Which part of a text the refusal of a requirement's front shows: a number of bytes from a place on.
 use Rattle.std.specs.Prelude.{◌≡◌, ℕ, ◌+◌, ◌-◌, ◌==◌, List, [], ◌∷◌, ◌++◌, length, IsTrue, is_some, flat_map}
 use Rattle.std.specs.Prelude.{Some, None, Ok}
 use Rattle.std.specs.List.{AllByRecursion}
@@ -14,11 +14,11 @@ use Rattle.pep508_error.specs.Refusals.{Refuses}
 use Rattle.pep508_requirement_text.specs.FrontReading.{name_at, extras_at, begins_operator}
 use Rattle.pep508_requirement_text.specs.FrontText.{IsBeforeMarker}
 
--- so many bytes of this text are shown, from a place on
+-- this refusal shows `len` bytes of this text, from a place on
 abbrev pub Shows : List ℕ → ℕ → ℕ → Refusal → Type 0
 Shows input start len refusal = Refuses refusal refusal.kind input start len
 
--- this is so of the refusal, unless it is want of memory
+-- this is so of the refusal, unless it is lack of memory
 abbrev pub IfTold : (Refusal → Type 0) → Refusal → Type 0
 IfTold P refusal = (refusal.kind ≡ Memory → ⊥) → P refusal
 
@@ -36,7 +36,7 @@ IsSpecifier piece = IsTrue (is_some (specifier_of piece))
 abbrev pub with_comma : List ℕ → List ℕ
 with_comma piece = piece ++ 44 ∷ []
 
--- the first piece between a list's commas that is no specifier, and what stands before it (PEP 508,
+-- the first piece between a list's commas that is not a specifier, and the text before it (PEP 508,
 -- "Grammar": `version_many`); an empty list is one empty piece
 pub record IsFirstWrong (list before piece : List ℕ) : Type 0 where
   pub earlier : List (List ℕ)
@@ -46,27 +46,26 @@ pub record IsFirstWrong (list before piece : List ℕ) : Type 0 where
   pub wrong : specifier_of piece ≡ None
   pub stands : before ≡ flat_map with_comma earlier
 
--- that piece of the list that stands at a place
+-- that piece of the list at a place
 pub record ShowsPiece (input : List ℕ) (place : ℕ) (list : List ℕ) (refusal : Refusal) : Type 0 where
   pub before : List ℕ
   pub piece : List ℕ
   pub first : IsFirstWrong list before piece
   pub shown : Shows input (place + length before) (length piece) refusal
 
--- the same of the list behind the white space at the front of a text
+-- the first wrong piece of the list after the white space at the front of a text
 abbrev pub ShowsTrimmed : List ℕ → ℕ → List ℕ → Refusal → Type 0
 ShowsTrimmed input place text =
     ShowsPiece input (place + (length text - length (trim_start text))) (trim_start text)
 
 -- ---- the front
 
--- this is so of the later place in the same text at which these characters stand
+-- this is so of the later place in the same text at which these characters are
 abbrev pub IsSoWhere : Cursor → List ℕ → (Cursor → Type 0) → Type 0
 IsSoWhere earlier cs P = (place : Cursor) × IsBehind earlier place × (behind place ≡ cs) × P place
 
--- what is shown where what follows a name and its extras at a place is none: of a name that stands alone,
--- which is an archive's, no byte where reading begins; of a list up to a `;` or the end, and of one in
--- brackets, its wrong piece
+-- what is shown where the text after a name and its extras is invalid: for an archive's name alone, no byte
+-- where reading begins; for a list up to a `;` or the end, and for one in brackets, its wrong piece
 pub record ShowsSource (whole place : Cursor) (refusal : Refusal) : Type 0 where
   pub alone : IsBeforeMarker (behind place) → Shows whole.input.now whole.position 0 refusal
   pub bare : IsTrue (begins_by begins_operator (behind place))
@@ -74,7 +73,7 @@ pub record ShowsSource (whole place : Cursor) (refusal : Refusal) : Type 0 where
   pub enclosed : (cs inside later : List ℕ) → behind place ≡ 40 ∷ cs → cut_around 41 cs ≡ Some (inside, later)
       → IsSoWhere place cs (λ inner. ShowsTrimmed inner.input.now inner.position inside refusal)
 
--- these characters follow a text's name and extras, and white space behind each
+-- these characters follow a text's name and extras, and white space after each
 pub record IsAsked (text cs : List ℕ) : Type 0 where
   pub name : List ℕ
   pub behind_name : List ℕ
@@ -84,8 +83,8 @@ pub record IsAsked (text cs : List ℕ) : Type 0 where
   pub are_extras : extras_at (skip_leading_whitespace behind_name) ≡ Ok (extras, behind_extras)
   pub asked : skip_leading_whitespace behind_extras ≡ cs
 
--- what is shown of a text that is refused as the front of a requirement: of white space alone an empty field,
--- and behind a name and extras what `ShowsSource` says
+-- what is shown of a text that is refused as the front of a requirement: of white space alone an empty
+-- field, and after a name and extras what `ShowsSource` says
 pub record ShowsFront (whole : Cursor) (refusal : Refusal) : Type 0 where
   pub empty : skip_leading_whitespace (behind whole) ≡ [] → ShowsEmptyField whole.input.now refusal
   pub asked : (cs : List ℕ) → IsAsked (rest_of whole) cs

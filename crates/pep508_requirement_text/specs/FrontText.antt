@@ -31,7 +31,7 @@ pub record AreNames (cs : List ℕ) (names : List (List ℕ)) : Type 0 where
   pub are_names : AllZip IsSpacedName pieces names
   pub nonempty : 0 < length pieces
 
--- what stands between the brackets of extras: names, or white space alone
+-- the text between the brackets of extras: names, or white space alone
 abbrev pub IsInside : List ℕ → List (List ℕ) → Type 0
 IsInside inside names = (AreSpaces inside × (names ≡ [])) ⊎ AreNames inside names
 
@@ -69,7 +69,7 @@ pub record IsUrlText (cs rest : List ℕ) (url : List ℕ) : Type 0 where
   pub encoded : url ≡ encode_utf8_all written
   pub ends : IsUrlBefore false written rest
 
--- what a name written so is asked for with, before the rest of the text
+-- what follows a name with this text, before the rest of the text
 abbrev pub IsSourceText : List ℕ → List ℕ → List ℕ → Source → Type 0
 IsSourceText name cs rest Any = (cs ≡ []) × IsBeforeMarker rest × (is_archive name ≡ false)
 IsSourceText name cs rest (Specifiers given) = IsEnclosed cs given ⊎ IsOpenList cs rest given

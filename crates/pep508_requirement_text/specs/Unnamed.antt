@@ -20,13 +20,13 @@ unfoldable pub looks_like_url : List ℕ → Bool
 looks_like_url text =
     begins_with_dot text || list_any is_slash text || is_some (scheme_split text) || is_archive text
 
--- the text, or what stands before the extras at its end
+-- the text, or the text before the extras at its end
 abbrev pub IsBeforeExtras : List ℕ → List ℕ → Type 0
 IsBeforeExtras text url =
     ((extras : List ℕ) × IsExtrasSplit text url extras)
     ⊎ ((url ≡ text) × ((front extras : List ℕ) → IsExtrasSplit text front extras → ⊥))
 
--- the text, its variables' values put in and its extras left out, looks like a URL or a path
+-- the text, with variables expanded and its extras left out, looks like a URL or a path
 pub record LooksUnnamed (vars : Variables) (text : List ℕ) : Type 0 where
   pub url : List ℕ
   pub before_extras : IsBeforeExtras (expanded vars text) url

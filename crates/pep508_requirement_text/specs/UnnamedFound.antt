@@ -1,4 +1,4 @@
--- What the reader of such a front returns, by what there is to read.
+-- The results of the reader of the front of a requirement without a name, for each reading of its text.
 use Rattle.std.specs.Prelude.{◌≡◌, ◌⊎◌, ℕ, List, Result, Ok, Err}
 use Rattle.pep508_error.specs.declared.cursor.Cursor.{Cursor}
 use Rattle.pep508_error.specs.declared.refusal.Refusal.{Refusal}
@@ -13,7 +13,7 @@ use Rattle.pep508_requirement_text.specs.declared.unnamed.Unnamed.{Unnamed}
 abbrev pub seen : Unnamed → UnnamedFront
 seen found = record { url = found.url.text.now; extras = found.extras.items }
 
--- what was returned is the reading, or want of memory
+-- the result is the reading, or lack of memory
 abbrev pub ReadsUnnamed : Result (Unnamed × Cursor) Refusal → List ℕ → Type 0
 ReadsUnnamed (Ok found) text = IsUnnamedReading text (Ok (seen found.0, behind found.1))
 ReadsUnnamed (Err refusal) text =

@@ -1,4 +1,4 @@
--- What there is to read at the front of a requirement without a name: a URL, and the extras at its end.
+-- The reading of the front of a requirement without a name: a URL, and the extras at its end.
 use Rattle.std.specs.Prelude.{◌≡◌, ◌⊎◌, ◌<◌, ℕ, true, List, [], length, Option, Some, None, Ok, Err}
 use Rattle.std.specs.Prelude.{encode_utf8_all}
 use Rattle.std.specs.Str.{chars, skip_leading_whitespace}
@@ -12,11 +12,11 @@ pub record UnnamedFront : Type 0 where
   pub url : List ℕ
   pub extras : List (List ℕ)
 
--- the characters of a URL behind white space, and those that follow it
+-- the characters of a URL after white space, and those that follow it
 abbrev pub url_at : List ℕ → List ℕ × List ℕ
 url_at text = url_split true 0 (skip_leading_whitespace (chars text))
 
--- the text is a URL and extras at its end, and these are the names that their inside is read as; without such
+-- the text is a URL and extras at its end, and these are the names between the brackets; without such
 -- extras it is the URL, and there are no names
 abbrev pub HasExtras : List ℕ → List ℕ → Option (List (List ℕ)) → Type 0
 HasExtras text url names =

@@ -1,7 +1,7 @@
--- Where a URL ends in a requirement's text. PEP 508 ends it at white space ("Grammar", `urlspec`), which URLs
--- and paths that people write hold; so it goes on to a line break, to white space before the end, a `;` or a
--- `#`, or to a `;` or `#` before white space. Between the brackets of a URL without a name a line break alone
--- ends it.
+-- Where a URL ends in a requirement's text. PEP 508 ends it at white space ("Grammar", `urlspec`), which
+-- URLs and paths that people write contain; so it ends at a line break, at white space before the end, a
+-- `;` or a `#`, or at a `;` or `#` before white space. Between the brackets of a URL without a name only a
+-- line break ends it.
 use Rattle.std.specs.Prelude.{◌≡◌, ◌≢◌, ◌⊎◌, ℕ, ◌+◌, ◌-◌, ◌==◌, ◌&&◌, ◌||◌, Bool, true, false, if◌then◌else◌}
 use Rattle.std.specs.Prelude.{List, [], ◌∷◌, ◌++◌, fold, IsTrue}
 use Rattle.std.specs.Char.{is_whitespace}
@@ -17,7 +17,7 @@ depth_behind true depth c = if c == 91 then depth + 1 else (if c == 93 then dept
 abbrev pub is_line_break : ℕ → Bool
 is_line_break c = c == 10 || c == 13
 
--- `;` or `#`, before or behind which a URL may end
+-- `;` or `#`, before or after which a URL may end
 abbrev pub is_mark : ℕ → Bool
 is_mark c = c == 59 || c == 35
 
@@ -34,7 +34,7 @@ begins_with_end cs = begins_by is_whitespace cs && is_over (skip_leading_whitesp
 abbrev pub ends_before : ℕ → List ℕ → Bool
 ends_before depth cs = begins_by is_line_break cs || (depth == 0 && begins_with_end cs)
 
--- a URL ends behind this character, which leaves it at this depth, before these
+-- a URL ends after this character, which leaves it at this depth, before these
 abbrev pub ends_behind : ℕ → ℕ → List ℕ → Bool
 ends_behind depth c cs = depth == 0 && is_mark c && begins_by is_whitespace cs
 
@@ -50,7 +50,7 @@ url_split brackets depth (c ∷ cs) =
     (if ends_behind (depth_behind brackets depth c) c cs then ([], cs)
     else url_split brackets (depth_behind brackets depth c) cs)
 
--- ---- the same, said at once
+-- ---- URLs and their ends, without steps
 
 -- how deep in brackets these characters leave the text
 abbrev pub depth_of : Bool → List ℕ → ℕ
@@ -66,7 +66,7 @@ EndsBetween brackets front rest =
     ⊎ ((depth_of brackets front ≡ 0)
     × (IsTrue (begins_with_end rest) ⊎ (EndsWithMark front × IsTrue (begins_by is_whitespace rest))))
 
--- the characters of a URL, up to the first place behind them at which one may end
+-- the characters of a URL, up to the first place after them at which one may end
 pub record IsUrlBefore (brackets : Bool) (url rest : List ℕ) : Type 0 where
   pub some : url ≢ []
   pub starts : begins_by is_whitespace url ≡ false

@@ -17,7 +17,7 @@ pub record BeginsWith (text : List ℕ) (c : ℕ) (rest : List ℕ) : Type 0 whe
   pub cut : IsCut text (encode_utf8 c) rest
   pub characters : chars text ≡ c ∷ chars rest
 
--- the text begins with this white space, and behind it is none
+-- the text begins with this white space, and no more follows it
 pub record AreBlanks (text run rest : List ℕ) : Type 0 where
   pub cut : IsCut text run rest
   pub blank : NonePass is_not_whitespace (chars run)
@@ -42,7 +42,7 @@ pub record GoesOnAt (brackets : Bool) (depth : ℕ) (text : List ℕ) (later : �
   pub kept : depth_behind brackets later 32 ≡ later
   pub bound : later + length rest ≤ depth + length text
 
--- one turn of the reading
+-- one step of the reading
 abbrev pub IsTurn : Bool → ℕ → List ℕ → Turn → Type 0
 IsTurn brackets depth text (Ends rest) = EndsAt brackets depth text rest.now
 IsTurn brackets depth text (GoesOn rest later) =

@@ -4,7 +4,7 @@ ghost use Rattle.std.specs.Prelude.{◌≡◌};
 ghost use Rattle.std.specs.List.{list_any};
 ghost use Rattle.pep508_requirement_text.specs.Archives.{is_archive, has_ending};
 
-/// How the names of archives end.
+/// The endings of the names of archives.
 pub(crate) const ENDINGS: [&str; 12] = [
     ".whl",
     ".tbz",
@@ -20,8 +20,8 @@ pub(crate) const ENDINGS: [&str; 12] = [
     ".tar.gz",
 ];
 
-/// Whether a text is the file name of an archive that pip installs from: something, and then `.whl`,
-/// `.tar.gz` or another of their endings, in lower case alone.
+/// Returns whether a text is the file name of an archive that pip installs from: something, and then
+/// `.whl`, `.tar.gz` or another of their endings, in lower case alone.
 ///
 /// Looks at the last nine bytes, and takes no memory.
 #[tactic(auto, unfolding(crate::specs::Archives::is_archive))]
@@ -37,7 +37,7 @@ fn has_one_of(text: &str, endings: &[&str]) -> bool
     endings.iter().any(|ending| has_ending(text, ending))
 }
 
-/// Whether a text is something, and then this ending.
+/// Returns whether a text is something, and then this ending.
 fn has_ending(text: &str, ending: &str) -> bool
     ensures { result ≡ has_ending text.now ending.now }
 {

@@ -1,4 +1,8 @@
 //! Reading extras.
+//!
+//! The fault of extras is looked for only once they are refused, by a walk that shares no code with the
+//! reading: values are proved, messages are that walk's. Faults in brackets come in reading order, the
+//! missing bracket last.
 
 ghost use Rattle.std.specs.Prelude.{◌≡◌, ◌==◌, false, IsOk, IfOk, IfErr, IfSome, option_map};
 ghost use Rattle.std.specs.List.{slice_split};
@@ -17,11 +21,13 @@ use pep508_error::{Cursor, Refusal};
 use pep508_name::{ExtraName, InvalidNameError, is_name};
 use std::alloc::{AllocError, Global};
 
-/// The extras at a place, as `[dev, test]`, in the order given, and the place behind them; none where no `[`
-/// follows (PEP 508, "Extras").
+/// Reads the extras at a place, as `[dev, test]`, and returns them in the order given with the place after
+/// them; none where no `[` follows (PEP 508, "Extras").
 ///
-/// Linear in the text up to the `]`. Takes memory for the names, and none where no `[` follows. The refusal
-/// shows the first fault in the order in which the text is read.
+/// Linear in the text up to the `]`. Takes memory for the names, and none where no `[` follows.
+///
+/// # Errors
+/// The first fault in the order in which the text is read, or lack of memory.
 pub fn read_extras<'a>(
     alloc: Global,
     start: Cursor<'a>,
@@ -44,7 +50,7 @@ pub fn read_extras<'a>(
     }
 }
 
-/// The names between brackets, if they are names.
+/// Reads the names between brackets; `None` where they are not all names.
 #[tactic(auto, unfolding(crate::specs::FrontReading::extras_of))]
 pub(crate) fn read_inside(alloc: Global, inside: &str) -> Result<Option<Vec<ExtraName>>, AllocError>
     ensures { IfOk result (λ names. option_map (λ v. v.items) names ≡ extras_of inside.now) }
@@ -55,7 +61,7 @@ pub(crate) fn read_inside(alloc: Global, inside: &str) -> Result<Option<Vec<Extr
     read_names(alloc, inside)
 }
 
-/// The names with commas between them, if they are names.
+/// Reads the names with commas between them; `None` where they are not all names.
 fn read_names(alloc: Global, inside: &str) -> Result<Option<Vec<ExtraName>>, AllocError>
     ensures { IfOk result (λ names. option_map (λ v. v.items) names
         ≡ names_of (slice_split (λ b. b == 44) inside.now)) }
@@ -70,7 +76,7 @@ fn read_names(alloc: Global, inside: &str) -> Result<Option<Vec<ExtraName>>, All
     Ok(Some(names))
 }
 
-/// The name that a piece is, white space around it left out.
+/// Reads the name of a piece without the white space around it; `None` where it is not a name.
 fn read_extra(alloc: Global, piece: &str) -> Result<Option<ExtraName>, AllocError>
     ensures { IfOk result (λ name. name ≡ name_of (trim piece.now)) }
 {
@@ -81,7 +87,7 @@ fn read_extra(alloc: Global, piece: &str) -> Result<Option<ExtraName>, AllocErro
     }
 }
 
-/// The refusal of extras: their first fault, or that no `]` follows.
+/// Returns the refusal of extras: their first fault, or that no `]` follows.
 pub(crate) fn refuse_extras<'a>(alloc: Global, opening: Cursor<'a>) -> Refusal<'a>
     ensures plain { IsPlain result.kind }
     ensures of { IsOf opening.entry result }
@@ -105,7 +111,7 @@ pub(crate) fn refuse_extras<'a>(alloc: Global, opening: Cursor<'a>) -> Refusal<'
     )))
 }
 
-/// The place of the comma behind an extra, if there is one.
+/// Returns the place of the comma after an extra, if there is one.
 fn skip_extra<'a>(
     alloc: Global,
     start: Cursor<'a>,
@@ -126,7 +132,8 @@ fn skip_extra<'a>(
     match later.peek() {
         Some(c) if c != ',' && c != ']' && !c.is_whitespace() => {
             return Err(later.refuse_char(plain(format!(in alloc;
-                "Invalid character in extras name, expected an alphanumeric character, `-`, `_`, `.`, `,` or `]`, found `{c}`"
+                "Invalid character in extras name, expected an alphanumeric character, \
+                 `-`, `_`, `.`, `,` or `]`, found `{c}`"
             ))));
         }
         _ => {}
@@ -144,7 +151,7 @@ fn skip_extra<'a>(
     }
 }
 
-/// The refusal of a character that begins no extra.
+/// Returns the refusal of a character that begins no extra.
 fn refuse_first<'a>(alloc: Global, place: Cursor<'a>, c: char, is_first: bool) -> Refusal<'a>
     ensures plain { IsPlain result.kind }
     ensures of { IsOf place.entry result }
@@ -152,7 +159,8 @@ fn refuse_first<'a>(alloc: Global, place: Cursor<'a>, c: char, is_first: bool) -
     if is_first && c == ',' {
         return place.refuse_char(plain(String::from_str(
             alloc,
-            "Expected either alphanumerical character (starting the extra name) or `]` (ending the extras section), found `,`",
+            "Expected either alphanumerical character (starting the extra name) \
+             or `]` (ending the extras section), found `,`",
         )));
     }
     place.refuse_char(plain(format!(in alloc;

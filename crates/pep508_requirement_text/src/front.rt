@@ -1,4 +1,8 @@
 //! Reading the front of a requirement.
+//!
+//! The grammar is a relation on characters, and the reading a function on them; pieces become bytes where
+//! another crate reads them. The laws need no UTF-8, since what is cut at commas in bytes is what is cut in
+//! characters, encoded.
 
 ghost use Rattle.std.specs.Prelude.{◌≡◌, false, IfOk, IfErr};
 ghost use Rattle.pep508_url.specs.Vars.{Variables};
@@ -34,14 +38,17 @@ pub struct Front<'a> {
     pub source: Source<'a>,
 }
 
-const PRECEDED_BY_URL: &str =
-    "URL requirement must be preceded by a package name. Add the name of the package before the URL (e.g., `package_name @ https://...`).";
+const PRECEDED_BY_URL: &str = "URL requirement must be preceded by a package name. \
+     Add the name of the package before the URL (e.g., `package_name @ https://...`).";
 
-/// The front of a requirement at a place, and the place behind it: a name, extras, and specifiers or the text
-/// of a URL (PEP 508, "Grammar").
+/// Reads the front of a requirement at a place, and returns it with the place after it: a name, extras, and
+/// specifiers or the text of a URL (PEP 508, "Grammar").
 ///
-/// Linear in the text, but for bringing specifiers in order; takes memory for the name, the extras and the
-/// specifiers. The refusal shows the part of the text at fault.
+/// Linear in the text, but for sorting specifiers; takes memory for the name, the extras and the
+/// specifiers.
+///
+/// # Errors
+/// The part of the text at fault, or lack of memory.
 #[tactic(auto, unfolding(crate::specs::FrontReading::front_reading))]
 pub fn read_front<'a>(
     alloc: Global,
@@ -67,7 +74,8 @@ pub fn read_front<'a>(
     ))
 }
 
-/// What follows a name and its extras, and the place behind it; `whole` is where the requirement begins.
+/// Reads what follows a name and its extras, and returns it with the place after it; `whole` is where the
+/// requirement begins.
 fn read_source<'a>(
     alloc: Global,
     whole: Cursor<'a>,
@@ -98,14 +106,14 @@ fn read_source<'a>(
     }
 }
 
-/// Whether an operator begins with a character.
+/// Returns whether an operator begins with a character.
 fn begins_operator(c: char) -> bool
     ensures { result ≡ begins_operator c }
 {
     c == '<' || c == '=' || c == '>' || c == '~' || c == '!'
 }
 
-/// A name that stands alone.
+/// Reads a name without specifiers or a URL.
 fn read_alone<'a>(
     alloc: Global,
     whole: Cursor<'a>,
@@ -124,7 +132,7 @@ fn read_alone<'a>(
     Ok((Source::Any, start))
 }
 
-/// The text of a URL behind `@`.
+/// Reads the text of a URL after `@`.
 fn read_url<'a>(alloc: Global, start: Cursor<'a>) -> Result<(Source<'a>, Cursor<'a>), Refusal<'a>>
     ensures read { (vars : Variables) → ReadsAs vars IsSource result
         (if_url (url_split false 0 (skip_leading_whitespace (behind start.entry)))) }
@@ -139,7 +147,7 @@ fn read_url<'a>(alloc: Global, start: Cursor<'a>) -> Result<(Source<'a>, Cursor<
     Ok((Source::Url(piece), later))
 }
 
-/// The refusal of what may not follow a name.
+/// Returns the refusal of a character that may not follow a name.
 fn refuse_other<'a>(
     alloc: Global,
     whole: Cursor<'a>,

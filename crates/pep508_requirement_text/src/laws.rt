@@ -1,5 +1,4 @@
-//! Laws over the definitions that the contracts cite. The functions do nothing: each one's contract is its
-//! law.
+//! Laws of the fronts of requirements. The functions do nothing: each one's contract is its law.
 
 ghost use Rattle.std.specs.Prelude.{◌≡◌, ◌≢◌, ◌↔◌, ℕ, Bool, false, List, [], ◌++◌, Ok, Err};
 ghost use Rattle.std.specs.Char.{is_whitespace};
@@ -12,7 +11,7 @@ ghost use Rattle.pep508_requirement_text.specs.UnnamedText.{IsUnnamedText, IsUnn
 
 use pep440_specifier::laws::specifier_text_is_read;
 
-/// What is read at the front of a text stands there as the grammar has it (PEP 508, "Grammar").
+/// A front that is read from a text is written there as the grammar has it (PEP 508, "Grammar").
 pub fn a_read_front_is_written()
     ensures { (text : List ℕ) (front : Front) (rest : List ℕ)
         → front_reading text ≡ Ok (front, rest) → IsFrontText text front rest }
@@ -20,7 +19,7 @@ pub fn a_read_front_is_written()
     specifier_text_is_read();
 }
 
-/// What stands at the front of a text as the grammar has it is read (PEP 508, "Grammar").
+/// A front that is written at the front of a text as the grammar has it is read (PEP 508, "Grammar").
 pub fn a_written_front_is_read()
     ensures { (text : List ℕ) (front : Front) (rest : List ℕ)
         → IsFrontText text front rest → front_reading text ≡ Ok (front, rest) }
@@ -28,7 +27,7 @@ pub fn a_written_front_is_read()
     specifier_text_is_read();
 }
 
-/// At the front of a text stands at most one front of a requirement, and one rest follows it.
+/// A text begins with at most one front of a requirement, and just one rest follows it.
 pub fn a_text_has_one_front()
     ensures { (text : List ℕ) (front other : Front) (rest left : List ℕ)
         → IsFrontText text front rest → IsFrontText text other left → (front ≡ other) × (rest ≡ left) }
@@ -44,7 +43,7 @@ pub fn a_text_has_one_requirement()
     a_written_front_is_read();
 }
 
-/// A text whose front is refused is that of no requirement.
+/// A text whose front is refused is not that of any requirement.
 pub fn a_refused_text_is_none()
     ensures { (text : List ℕ) (refused : Refused) → front_reading text ≡ Err refused
         → (front : Front) → IsRequirementText text front → ⊥ }
@@ -52,7 +51,7 @@ pub fn a_refused_text_is_none()
     a_written_front_is_read();
 }
 
-/// A URL is split off exactly where it ends: at the first place behind it at which one may end.
+/// A URL is split off exactly where it ends: at the first place after its beginning at which one may end.
 pub fn a_url_is_split_where_it_ends()
     ensures { (brackets : Bool) (url rest : List ℕ)
         → (url_split brackets 0 (url ++ rest) ≡ (url, rest)) × (url ≢ [])
@@ -60,26 +59,27 @@ pub fn a_url_is_split_where_it_ends()
         ↔ IsUrlBefore brackets url rest }
 {}
 
-/// At the front of a text there is at most one thing to read where no name is wanted: a URL with its extras,
-/// or why there is none.
+/// A text begins with at most one reading where no name is wanted: a URL with its extras, or why there is
+/// none.
 pub fn a_text_has_one_unnamed_front()
     ensures { (text : List ℕ) (reading other : Reading UnnamedFront)
         → IsUnnamedReading text reading → IsUnnamedReading text other → reading ≡ other }
 {}
 
-/// At the front of each text there is a URL with its extras to read, or why there is none.
+/// Each text begins with a URL with its extras to read, or a reason why there is none.
 pub fn a_text_has_an_unnamed_reading()
     ensures { (text : List ℕ) → (reading : Reading UnnamedFront) × IsUnnamedReading text reading }
 {}
 
-/// What is read at the front of a text where no name is wanted stands there as the grammar has it: white
-/// space, and a URL with extras at its end.
+/// A front without a name that is read from a text is written there as the grammar has it: white space, and
+/// a URL with extras at its end.
 pub fn a_read_unnamed_front_is_written()
     ensures { (text : List ℕ) (front : UnnamedFront) (rest : List ℕ)
         → IsUnnamedReading text (Ok (front, rest)) → IsUnnamedText text front rest }
 {}
 
-/// A URL with extras at its end that stands at the front of a text, as the grammar has it, is read there.
+/// A URL with extras at its end that is written at the front of a text, as the grammar has it, is read
+/// there.
 pub fn a_written_unnamed_front_is_read()
     ensures { (text : List ℕ) (front : UnnamedFront) (rest : List ℕ)
         → IsUnnamedText text front rest → IsUnnamedReading text (Ok (front, rest)) }
@@ -93,7 +93,7 @@ pub fn a_text_has_one_unnamed_requirement()
     a_written_unnamed_front_is_read();
 }
 
-/// A text whose front without a name is refused is that of no requirement without a name.
+/// A text whose front without a name is refused is not that of any requirement without a name.
 pub fn a_refused_text_is_no_unnamed_requirement()
     ensures { (text : List ℕ) (refused : Refused) → IsUnnamedReading text (Err refused)
         → (front : UnnamedFront) → IsUnnamedRequirementText text front → ⊥ }

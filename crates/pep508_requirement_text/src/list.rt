@@ -1,4 +1,4 @@
-//! Reading specifiers.
+//! Reading the specifiers of a requirement.
 
 ghost use Rattle.std.specs.Prelude.{◌≡◌, ◌==◌, ◌+◌, ◌-◌, ℕ, List, Some, IfOk, IfErr};
 ghost use Rattle.std.specs.Str.{trim_start};
@@ -20,7 +20,7 @@ use pep440_specifier_list::{RefusedPiece, VersionSpecifiers, VersionSpecifiersPa
 use pep508_error::{Cursor, Refusal};
 use std::alloc::Global;
 
-/// The list up to a `;` or the end, and the place behind it.
+/// Reads the list up to a `;` or the end, and returns it with the place after it.
 pub(crate) fn read_open<'a>(
     alloc: Global,
     start: Cursor<'a>,
@@ -37,7 +37,7 @@ pub(crate) fn read_open<'a>(
     Ok((Source::Specifiers(list), later))
 }
 
-/// The list in brackets behind the opening one, and the place behind the closing one.
+/// Reads the list in brackets after the opening one, and returns it with the place after the closing one.
 pub(crate) fn read_enclosed<'a>(
     alloc: Global,
     opening: Cursor<'a>,
@@ -59,8 +59,8 @@ pub(crate) fn read_enclosed<'a>(
     }
 }
 
-/// The refusal of a list whose bracket is not closed: the first fault before its last comma, or that no `)`
-/// follows.
+/// Returns the refusal of a list whose bracket is not closed: the first fault before its last comma, or
+/// that no `)` follows.
 fn refuse_unclosed<'a>(alloc: Global, opening: Cursor<'a>, inner: Cursor<'a>) -> Refusal<'a>
     requires { IsBehind opening inner }
     ensures plain { IsPlain result.kind }
@@ -77,7 +77,7 @@ fn refuse_unclosed<'a>(alloc: Global, opening: Cursor<'a>, inner: Cursor<'a>) ->
     )))
 }
 
-/// The list of a text at a place, white space at its front left out.
+/// Reads the list of a text at a place, without the white space at its front.
 fn read_trimmed<'a>(
     alloc: Global,
     start: Cursor<'a>,
@@ -93,7 +93,7 @@ fn read_trimmed<'a>(
     read_specifiers(alloc, start.pass(blanks), list)
 }
 
-/// The list of a text at a place.
+/// Reads the list of a text at a place.
 #[tactic(auto, unfolding(crate::specs::FrontReading::specifiers_of_text))]
 fn read_specifiers<'a>(
     alloc: Global,
@@ -118,7 +118,7 @@ fn read_specifiers<'a>(
     }
 }
 
-/// The refusal of a list without specifiers.
+/// Returns the refusal of a list without specifiers.
 fn refuse_empty<'a>(alloc: Global, start: Cursor<'a>) -> Refusal<'a>
     ensures plain { IsPlain result.kind }
     ensures of { IsOf start.entry result }
@@ -128,7 +128,7 @@ fn refuse_empty<'a>(alloc: Global, start: Cursor<'a>) -> Refusal<'a>
     start.refuse(0, plain(format!(in alloc; "{error}")))
 }
 
-/// The refusal of a piece of the text at a place.
+/// Returns the refusal of a piece of the text at a place.
 fn refuse_piece<'a>(alloc: Global, start: Cursor<'a>, piece: &RefusedPiece) -> Refusal<'a>
     requires { IsAt start (string_bytes piece.now.line) }
     ensures plain { IsPlain result.kind }

@@ -1,4 +1,4 @@
-//! What looks like a URL or a path where a package's name is wanted.
+//! Texts that look like a URL or a path where a package's name is wanted.
 
 ghost use Rattle.std.specs.Prelude.{◌≡◌, ◌↔◌, IsTrue, IfOk, is_some};
 ghost use Rattle.std.specs.List.{list_any};
@@ -9,11 +9,11 @@ use crate::archive::is_archive;
 use pep508_url::{Vars, expand_env_vars, split_extras, split_scheme};
 use std::alloc::{AllocError, Global};
 
-/// Whether a text looks like a URL or a path without a package's name: with the variables' values in it and
-/// without the extras at its end, it begins with `.`, or has a slash, a backslash or a scheme, or is the file
-/// name of an archive.
+/// Returns whether a text looks like a URL or a path without a package's name: with variables expanded and
+/// without the extras at its end, it begins with `.`, or has a slash, a backslash or a scheme, or is the
+/// file name of an archive.
 ///
-/// Linear in the text with its values; takes memory for a text with a `$` alone.
+/// Linear in the expanded text; takes memory for a text with a `$` alone.
 pub fn looks_unnamed(alloc: Global, text: &str, vars: &Vars) -> Result<bool, AllocError>
     ensures { IfOk result (λ looks. IsTrue looks ↔ LooksUnnamed vars.now text.now) }
 {
@@ -21,7 +21,7 @@ pub fn looks_unnamed(alloc: Global, text: &str, vars: &Vars) -> Result<bool, All
     Ok(looks_like_url(before_extras(expanded.as_str())))
 }
 
-/// The text before the extras at its end, or all of it where it has none.
+/// Returns the text before the extras at its end, or all of it where it has none.
 fn before_extras(text: &str) -> &str
     ensures { IsBeforeExtras text.now result.now }
 {

@@ -1,4 +1,4 @@
-//! Refusals of a front, by their kind.
+//! The kinds of refusals of a front.
 
 ghost use Rattle.pep508_requirement_text.specs.FrontOutcome.{IsPlain, IsUnsupported};
 ghost use Rattle.pep508_error.specs.Refusals.{IsOf};
@@ -8,21 +8,22 @@ use crate::name_end::is_of_name;
 use pep508_error::{Cursor, Refusal, RefusalKind};
 use std::alloc::{AllocError, Global};
 
-/// That a text is malformed.
+/// Returns the refusal of a malformed text.
 pub(crate) fn plain(message: Result<String, AllocError>) -> RefusalKind
     ensures { IsPlain result }
 {
     RefusalKind::string(message)
 }
 
-/// That a text can't be a requirement with a name.
+/// Returns the refusal of a text that can't be a requirement with a name.
 pub(crate) fn unsupported(message: Result<String, AllocError>) -> RefusalKind
     ensures { IsUnsupported result }
 {
     RefusalKind::unsupported(message)
 }
 
-/// The refusal of a name at a place, since its last character is no letter or digit; `what` it names.
+/// Returns the refusal of a name at a place whose last character is not a letter or digit; `what` is what
+/// it names.
 pub(crate) fn refuse_last<'a>(alloc: Global, start: Cursor<'a>, what: &str) -> Refusal<'a>
     ensures plain { IsPlain result.kind }
     ensures of { IsOf start.entry result }
@@ -34,7 +35,7 @@ pub(crate) fn refuse_last<'a>(alloc: Global, start: Cursor<'a>, what: &str) -> R
     )))
 }
 
-/// The place of the last of the characters of names that follow.
+/// Returns the place of the last of the next characters that may be in a name.
 fn last_of_name(start: Cursor<'_>) -> Cursor<'_>
     ensures { IsBehind start.entry result }
 {

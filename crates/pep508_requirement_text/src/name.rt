@@ -19,10 +19,10 @@ use pep508_name::{PackageName, is_name};
 use pep508_url::Vars;
 use std::alloc::Global;
 
-const PRECEDED_BY_PATH: &str =
-    "URL requirement must be preceded by a package name. Add the name of the package before the URL (e.g., `package_name @ /path/to/file`).";
+const PRECEDED_BY_PATH: &str = "URL requirement must be preceded by a package name. \
+     Add the name of the package before the URL (e.g., `package_name @ /path/to/file`).";
 
-/// The name at a place as it is written, and the place behind it.
+/// Reads the name at a place as it is written, and returns it with the place after it.
 #[tactic(auto, unfolding(crate::specs::FrontReading::name_at))]
 pub(crate) fn read_name<'a>(
     alloc: Global,
@@ -47,7 +47,7 @@ pub(crate) fn read_name<'a>(
     }
 }
 
-/// Whether a letter or digit stands at the front.
+/// Returns whether a letter or digit is at the front.
 fn begins_alphanumeric(text: &str) -> bool
     ensures { result ≡ is_alphanumeric_at text.now 0 }
 {
@@ -57,7 +57,7 @@ fn begins_alphanumeric(text: &str) -> bool
     }
 }
 
-/// The refusal of a text whose first character begins no name.
+/// Returns the refusal of a text whose first character begins no name.
 fn refuse_nameless<'a>(alloc: Global, start: Cursor<'a>, vars: &Vars) -> Refusal<'a>
     ensures fits { Fits vars.now result.kind (Nameless (run_of (behind start.entry))) }
     ensures of { IsOf start.entry result }
@@ -80,7 +80,7 @@ fn refuse_nameless<'a>(alloc: Global, start: Cursor<'a>, vars: &Vars) -> Refusal
     }
 }
 
-/// The refusal of a text that has nothing but white space, by its first character.
+/// Returns the refusal of a text that is only white space, at its first character.
 fn refuse_empty<'a>(alloc: Global, start: Cursor<'a>) -> Refusal<'a>
     ensures plain { IsPlain result.kind }
     ensures of { IsOf start.entry result }
@@ -92,7 +92,7 @@ fn refuse_empty<'a>(alloc: Global, start: Cursor<'a>) -> Refusal<'a>
     )))
 }
 
-/// The name of a package, in normal form.
+/// Returns the name of a package, in normal form.
 #[tactic(auto, unfolding(pep508_name::specs::Name::name_of))]
 pub(crate) fn package_name<'a>(alloc: Global, name: &str) -> Result<PackageName, Refusal<'a>>
     requires { IsTrue (is_name name.now) }

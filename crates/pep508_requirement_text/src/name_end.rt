@@ -1,11 +1,11 @@
-//! Where the characters of a name end.
+//! The characters of a name, and those that end it.
 
 ghost use Rattle.std.specs.Prelude.{◌≡◌};
 ghost use Rattle.pep508_name.specs.Name.{is_name_byte};
 
 use pep508_error::Stop;
 
-/// The characters that may not stand in a name.
+/// A character that may not be in a name, as the end of a piece.
 #[derive(Clone, Copy)]
 pub(crate) struct NameEnd;
 
@@ -19,7 +19,7 @@ impl Stop for NameEnd {
     }
 }
 
-/// Whether a character may stand in a name.
+/// Returns whether a character may be in a name.
 pub(crate) fn is_of_name(c: char) -> bool
     ensures { result ≡ is_name_byte c }
 {

@@ -1,4 +1,4 @@
-//! What a name and its extras are asked for with.
+//! The specifiers or the URL after a name and its extras.
 
 ghost use Rattle.std.specs.Prelude.{length};
 ghost use Rattle.std.specs.Str.{IsCharBoundary};
@@ -7,7 +7,7 @@ ghost use Rattle.pep508_error.specs.Cursors.{rest_of};
 use pep440_specifier_list::VersionSpecifiers;
 use pep508_error::Cursor;
 
-/// The text of a URL, and the place where it stands.
+/// The text of a URL, and its place.
 #[derive(Clone, Copy)]
 pub struct UrlPiece<'a> {
     pub text: &'a str,
@@ -15,10 +15,10 @@ pub struct UrlPiece<'a> {
     pub ghost placed: { IsCharBoundary (rest_of start) (length text.now) },
 }
 
-/// What a name and its extras are asked for with.
+/// The versions or the URL that a requirement's text requires.
 #[derive(Drop)]
 pub enum Source<'a> {
-    /// Nothing: any version.
+    /// Any version.
     Any,
     /// Specifiers, by version.
     Specifiers(VersionSpecifiers),

@@ -1,4 +1,7 @@
 //! Reading the front of a requirement that has no name.
+//!
+//! The grammar is a relation on characters, though this reader cuts bytes: brackets are ASCII, so both cut
+//! at the same places. `IsExtrasSplit` serves both.
 
 ghost use Rattle.std.specs.Prelude.{◌≡◌, ◌⊎◌, ◌∷◌, ◌++◌, ◌<◌, [], ℕ, List, length, encode_utf8_all};
 ghost use Rattle.std.specs.Prelude.{Some, None, IsOk, IfOk, IfErr, IfSome, MatchOption, MatchResult};
@@ -30,11 +33,14 @@ pub struct Unnamed<'a> {
     pub extras: Vec<ExtraName>,
 }
 
-/// The front of a requirement without a name at a place, and the place behind it: a URL and, at its end,
-/// extras in brackets. Inside brackets a line break alone ends the URL.
+/// Reads the front of a requirement without a name at a place, and returns it with the place after it: a
+/// URL and, at its end, extras in brackets. Inside brackets only a line break ends the URL.
 ///
-/// Linear in the text; takes memory for the extras and for a refusal's message, and none for a URL that ends
-/// in no brackets. The refusal shows the part of the text at fault.
+/// Linear in the text; takes memory for the extras and for a refusal's message, and none for a URL that
+/// ends in no brackets.
+///
+/// # Errors
+/// The part of the text at fault, or lack of memory.
 pub fn read_unnamed<'a>(
     alloc: Global,
     start: Cursor<'a>,
@@ -59,7 +65,7 @@ pub fn read_unnamed<'a>(
     Ok((Unnamed { whole, url, extras }, later))
 }
 
-/// The URL and the extras that a URL's text is.
+/// Splits a URL's text into the URL and the extras at its end, and reads these.
 fn read_parts<'a>(
     alloc: Global,
     whole: UrlPiece<'a>,
@@ -83,7 +89,7 @@ fn read_parts<'a>(
     }
 }
 
-/// The URL before the extras at the end of a URL's text, and those.
+/// Splits a URL's text into the URL and the text of the extras at its end.
 fn split_piece<'a>(whole: UrlPiece<'a>) -> Option<(UrlPiece<'a>, &'a str)>
     requires { IsAt whole.start whole.text.now }
     ensures split { MatchOption result
@@ -97,7 +103,7 @@ fn split_piece<'a>(whole: UrlPiece<'a>) -> Option<(UrlPiece<'a>, &'a str)>
     Some((UrlPiece { text, start }, extras))
 }
 
-/// What stands between the brackets at both ends.
+/// Returns the text between the brackets at both ends.
 fn inside(extras: &str) -> &str
     requires { (inner : List ℕ) × (extras.now ≡ 91 ∷ (inner ++ 93 ∷ [])) }
     ensures { extras.now ≡ 91 ∷ (result.now ++ 93 ∷ []) }

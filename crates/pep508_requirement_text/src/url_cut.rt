@@ -1,4 +1,4 @@
-//! Cutting the text of a URL off.
+//! Splitting off the text of a URL.
 
 ghost use Rattle.std.specs.Prelude.{◌≡◌};
 ghost use Rattle.std.specs.Str.{chars, IsUtf8};
@@ -9,7 +9,7 @@ use crate::source::UrlPiece;
 use crate::url_end::split_url;
 use pep508_error::Cursor;
 
-/// The URL at a place, and the place behind it.
+/// Returns the URL at a place, and the place after it.
 pub(crate) fn cut_url<'a>(start: Cursor<'a>, brackets: bool) -> (UrlPiece<'a>, Cursor<'a>)
     ensures parts { (chars result.0.text.now, behind result.1) ≡ url_split brackets 0 (behind start.entry) }
     ensures utf8 { IsUtf8 result.0.text.now }

@@ -1,4 +1,6 @@
-//! Where a URL ends in a requirement's text.
+//! Finding where a URL ends in a requirement's text.
+//!
+//! The end is tested once for each run of white space; upstream's search starts again at each blank of it.
 
 ghost use Rattle.std.specs.Prelude.{◌≡◌, ◌+◌, ◌^◌, ◌<◌, ◌==◌, ◌&&◌, ◌++◌, [], true, false, length};
 ghost use Rattle.std.specs.Prelude.{MatchOption};
@@ -9,18 +11,18 @@ ghost use Rattle.pep508_requirement_text.specs.UrlEnds.{is_over, ends_behind};
 ghost use Rattle.pep508_error.specs.Cuts.{begins_by};
 ghost use Rattle.pep508_requirement_text.specs.UrlTurns.{BeginsWith, AreBlanks, EndsAt, IsTurn};
 
-/// What reading one character, or a run of white space, of a URL leads to.
+/// The result of reading one character, or a run of white space, of a URL.
 pub(crate) enum Turn<'a> {
     /// The URL ends before this text.
     Ends(&'a str),
-    /// It goes on with this text, at this depth in brackets.
+    /// The URL goes on with this text, at this depth in brackets.
     GoesOn(&'a str, usize),
 }
 
-/// The URL at the front of a text, and what follows it; `brackets` where a URL has no name and so ends
-/// outside brackets, line breaks excepted.
+/// Splits a text into the URL at its front and the text after it. With `brackets`, for a URL without a
+/// name, the URL ends outside brackets only, except at line breaks.
 ///
-/// One pass over the text, which looks behind each run of white space once. Takes no memory.
+/// One pass over the text, which looks past each run of white space once. Takes no memory.
 pub fn split_url(text: &str, brackets: bool) -> (&str, &str)
     ensures parts { (chars result.0.now, chars result.1.now) ≡ url_split brackets 0 (chars text.now) }
     ensures whole { text.now ≡ result.0.now ++ result.1.now }
@@ -38,7 +40,7 @@ pub fn split_url(text: &str, brackets: bool) -> (&str, &str)
     }
 }
 
-/// The text before the one at which its URL ends, and that one.
+/// Splits a text before the text at which its URL ends.
 fn split_to<'a>(text: &'a str, brackets: bool, behind: &str) -> (&'a str, &'a str)
     requires { EndsAt brackets 0 text.now behind.now }
     ensures parts { (chars result.0.now, chars result.1.now) ≡ url_split brackets 0 (chars text.now) }
@@ -65,7 +67,7 @@ fn read_on(text: &str, brackets: bool, depth: usize) -> Turn<'_>
     }
 }
 
-/// Reads the first character of a text, which is no white space.
+/// Reads the first character of a text, which is not white space.
 fn read_char<'a>(text: &'a str, c: char, rest: &'a str, brackets: bool, depth: usize) -> Turn<'a>
     requires begins { BeginsWith text.now c rest.now }
     requires plain { is_whitespace c ≡ false }
@@ -80,7 +82,7 @@ fn read_char<'a>(text: &'a str, c: char, rest: &'a str, brackets: bool, depth: u
     }
 }
 
-/// Whether a URL ends behind this character, before this text.
+/// Returns whether a URL ends after this character, before this text.
 fn ends_behind(depth: usize, c: char, text: &str) -> bool
     ensures { result ≡ ends_behind depth c (chars text.now) }
 {
@@ -103,14 +105,14 @@ fn read_blanks(text: &str, brackets: bool, depth: usize) -> Turn<'_>
     }
 }
 
-/// Whether a URL ends before white space at this depth, behind which this text stands.
+/// Returns whether a URL ends before white space at this depth that this text follows.
 fn is_end(depth: usize, text: &str) -> bool
     ensures { result ≡ (depth == 0 && is_over (chars text.now)) }
 {
     depth == 0 && is_over(text)
 }
 
-/// The white space at the front, and what follows it.
+/// Splits off the white space at the front.
 pub(crate) fn split_blanks(text: &str) -> (&str, &str)
     ensures { AreBlanks text.now result.0.now result.1.now }
 {
@@ -119,7 +121,7 @@ pub(crate) fn split_blanks(text: &str) -> (&str, &str)
     (run, behind)
 }
 
-/// How deep in brackets a character leaves the text.
+/// Returns the depth in brackets after a character.
 fn depth_behind(brackets: bool, depth: usize, c: char) -> usize
     requires { depth + 1 < 2 ^ 64 }
     ensures { result ≡ depth_behind brackets depth c }
@@ -134,7 +136,7 @@ fn depth_behind(brackets: bool, depth: usize, c: char) -> usize
     }
 }
 
-/// The first character, and what follows it.
+/// Splits off the first character.
 fn first(text: &str) -> Option<(char, &str)>
     ensures { MatchOption result (chars text.now ≡ []) (λ x. BeginsWith text.now x.0 x.1.now) }
 {
@@ -152,7 +154,7 @@ fn begins_with_blank(text: &str) -> bool
     }
 }
 
-/// Whether nothing is left, or a `;` or a `#` follows.
+/// Returns whether nothing is left, or a `;` or a `#` follows.
 fn is_over(text: &str) -> bool
     ensures { result ≡ is_over (chars text.now) }
 {

@@ -1,4 +1,5 @@
-//! The laws of the crates below, by what they speak of.
+//! The laws of requirements and markers, re-exported from the crates below under the name of what they are
+//! about.
 
 pub use pep508_comparison::laws as comparisons;
 pub use pep508_diagram::laws as diagrams;

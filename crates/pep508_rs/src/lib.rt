@@ -1,7 +1,7 @@
 #![tactic(auto)]
 //! Requirements of Python packages, as PEP 508 has them: names, extras, specifiers, URLs and markers.
 //!
-//! Trees of markers stand in an interner, which reads them and is asked with them:
+//! Marker trees are kept in an interner, which is passed to reading and to queries:
 //!
 //! ```text
 //! let mut interner = Interner::new(alloc);
@@ -11,8 +11,14 @@
 //! let applies = wanted.evaluate_markers(&interner, &environment, &[]);
 //! ```
 //!
-//! The crates below hold the code; this one passes on what they offer, and versions and specifiers as
-//! `pep440_rs`.
+//! A caller with one environment alone needs no tree:
+//!
+//! ```text
+//! let wanted = MarkedRequirement::<VerbatimUrl>::parse(alloc, &vars, text, None)?;
+//! let applies = wanted.evaluate_markers(alloc, &environment, &[])?;
+//! ```
+//!
+//! This crate re-exports what the crates below it offer, and versions and specifiers as `pep440_rs`.
 
 pub mod laws;
 
@@ -25,6 +31,8 @@ pub use pep508_environment::{
 pub use pep508_error::{Pep508Error, Pep508ErrorSource};
 pub use pep508_evaluation::MarkerTreeEvaluation;
 pub use pep508_expression::MarkerTreeExpression;
+pub use pep508_formula::{FormulaPart, MarkerFormula, Parts};
+pub use pep508_formula_truth::holds_in;
 pub use pep508_marker::{
     ClosureReporter, ExtraOperator, MarkerExpression, MarkerOperator, MarkerTextError, MarkerValue,
     MarkerValueExtra, MarkerValueString, MarkerValueVersion, MarkerWarningKind, Reporter, Silent,
@@ -34,11 +42,11 @@ pub use pep508_marker_comparison::{parse_expression, parse_expression_reporter};
 pub use pep508_marker_contents::{MarkerTreeContents, MarkerTreeWithContents, ser};
 pub use pep508_marker_dnf::MarkerTreeText;
 pub use pep508_marker_key::MarkerTreeKey;
-pub use pep508_marker_read::MarkerTreeReading;
+pub use pep508_marker_read::{MarkerTreeReading, parse_formula, tree_of};
 pub use pep508_name::{ExtraName, InvalidNameError, PackageName, RequirementOrigin};
 pub use pep508_questions::{Asked, MarkerTreeQuestions};
 pub use pep508_requirement::{
-    Extras, Requirement, UnnamedRequirement, VersionOrUrl, VersionOrUrlRef,
+    Extras, MarkedRequirement, Requirement, UnnamedRequirement, VersionOrUrl, VersionOrUrlRef,
 };
 pub use pep508_requirement_ref::{RequirementRef, UnnamedRequirementRef};
 pub use pep508_simplification::MarkerTreeSimplification;

@@ -1,4 +1,4 @@
--- Trees in which the named extras are taken as present, and what is remembered of them.
+-- Trees in which the named extras are assumed to be present, and what is remembered of them.
 use Rattle.std.specs.Prelude.{◌≡◌, ℕ, ◌<◌, Bool, false, List, IfSome}
 use Rattle.std.specs.Borrow.{Bor}
 use Rattle.std.specs.BTreeMap.{BTreeMap, get}
@@ -9,7 +9,7 @@ use Rattle.pep508_tree.specs.Meaning.{NodeRecord, holds, IsTree}
 use Rattle.pep508_tree.specs.Nodes.{AllChildren, IsRising, Above, chosen, node_place, first_place}
 use Rattle.pep508_simplification.specs.Simplified.{with_named}
 
--- the test's answers are by the name alone
+-- the test's results depend on the name alone
 abbrev pub AnswersBy : (Bor (List ℕ) → Bool → Type 0) → (List ℕ → Bool) → Type 0
 AnswersBy returns says = (name : Bor (List ℕ)) (answer : Bool) → returns name answer → answer ≡ says name.now
 
@@ -33,7 +33,7 @@ module _ (returns : Bor (List ℕ) → Bool → Type 0) where
   abbrev pub AreKnown : List NodeRecord → BTreeMap ℕ Tree → Type 0
   AreKnown nodes known = (place : ℕ) → IfSome (get nat_cmp known place) (IsKnown nodes place)
 
-  -- the node says what the tree does with the named extras present
+  -- the node's child at a valuation holds where the tree does, with the named extras present
   pub record IsAsked (nodes : List NodeRecord) (t : Tree) (n : NodeRecord) : Type 0 where
     pub made : AllChildren (IsTree nodes) n
     pub falls : AllChildren (λ child. child.place < t.place) n

@@ -43,7 +43,7 @@ asks_implementation (Some (Versions PythonFullVersion first later)) = false
 asks_implementation (Some (Texts key first later)) = false
 asks_implementation (Some (Flagged flag set unset)) = false
 
--- what stands between two bounds
+-- the children between two bounds
 abbrev pub cut : Bound VersionRecord → Bound VersionRecord → Tree × List (Branch VersionRecord Tree) →
     Tree × List (Branch VersionRecord Tree)
 cut lower upper node = (

@@ -1,4 +1,4 @@
--- Plain trees that wait for what stands in their nodes.
+-- Plain trees that wait for the results of their nodes' children.
 use Rattle.std.specs.Prelude.{◌≡◌, ℕ, ◌<◌, Bool, List, None, MatchOption, length, take}
 use Rattle.std.specs.Borrow.{Bor}
 use Rattle.std.specs.BTreeMap.{BTreeMap, get}
@@ -18,7 +18,7 @@ pub record IsUnknown (nodes : List NodeRecord) (known : BTreeMap ℕ Tree) (plac
   pub absent : get nat_cmp known tree.place ≡ None
   pub falls : tree.place < place
 
--- what waits has the trees that stand in its node, and what is found for the first of them
+-- a waiting tree has its node's children, and the results of the first of them
 pub record IsPending (returns : Bor (List ℕ) → Bool → Type 0) (nodes : List NodeRecord) (pending : Pending)
     : Type 0 where
   pub made : IsTree nodes pending.tree

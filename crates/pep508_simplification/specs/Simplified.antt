@@ -1,4 +1,4 @@
--- What simplifying a marker does to its value, told by points of `python_full_version` and by valuations.
+-- How simplifying a marker changes its value, by points of `python_full_version` and by valuations.
 use Rattle.std.specs.Prelude.{◌≡◌, ℕ, Bool, true, false, ◌||◌, List}
 use Rattle.std.specs.declared.cmp.Ordering.TheVariants.{Less}
 use Rattle.std.specs.declared.ops.Bound.{Bound}
@@ -22,7 +22,7 @@ use Rattle.pep508_diagram.specs.Question.{Valuation, with_version}
 abbrev pub is_listed : List (List ℕ) → List ℕ → Bool
 is_listed extras name = list_any (λ extra. name_eq extra name) extras
 
--- the flag is an extra of a name for which the test answers true
+-- the flag is an extra of a name for which the test returns true
 abbrev pub is_named : (List ℕ → Bool) → Flag → Bool
 is_named says (In key text) = false
 is_named says (Contains key text) = false

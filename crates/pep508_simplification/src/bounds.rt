@@ -1,4 +1,4 @@
-//! Bounds of versions, as values.
+//! Copies of bounds of versions.
 
 ghost use Rattle.std.specs.Prelude.{◌≡◌, IfOk};
 ghost use Rattle.pep440_specifier.specs.Bounds.{lent_bound};
@@ -7,7 +7,7 @@ use pep440_version::Version;
 use std::alloc::{AllocError, Global};
 use std::ops::Bound;
 
-/// A copy of a bound.
+/// Returns a copy of a bound.
 pub(crate) fn copy_of_bound(
     alloc: Global,
     bound: Bound<&Version>,

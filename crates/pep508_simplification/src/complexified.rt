@@ -1,4 +1,4 @@
-//! Trees that hold within a range of versions of Python alone.
+//! Trees that are restricted to a range of versions of Python.
 
 ghost use Rattle.std.specs.Prelude.{◌≡◌, ◌&&◌, IfOk};
 ghost use Rattle.pep440_specifier.specs.Bounds.{lent_bound};
@@ -15,7 +15,7 @@ use std::alloc::{AllocError, Global};
 use std::ops::Bound;
 use version_ranges::Ranges;
 
-/// The conjunction with `python_full_version` between two bounds.
+/// Returns the conjunction with `python_full_version` between two bounds.
 pub(crate) fn complexified(
     alloc: Global,
     interner: &mut Interner,

@@ -1,5 +1,5 @@
-//! Marker trees that are simplified by what is known of environments: the range of Python's versions, and
-//! extras that are there (PEP 508, "Environment Markers").
+//! Marker trees that are simplified by known properties of environments: the range of Python's versions,
+//! and extras that are present (PEP 508, "Environment Markers").
 #![tactic(auto)]
 
 mod bounds;

@@ -1,4 +1,4 @@
-//! Trees in which the named extras are taken as present.
+//! Trees in which the named extras are assumed to be present.
 
 ghost use Rattle.std.specs.Prelude.{◌≡◌, ℕ, Bool, List, IfOk, MatchOption};
 ghost use Rattle.pep508_diagram.specs.Question.{Valuation};
@@ -14,7 +14,7 @@ use pep508_name::ExtraName;
 use pep508_tree::{Interner, MarkerTree};
 use std::alloc::{AllocError, Global};
 
-/// Whether the flag is an extra that is named.
+/// Returns whether the flag is an extra that is named.
 fn is_flag_named<F: Fn(&ExtraName) -> bool>(flag: &Flag, predicate: &F) -> bool
     requires { F.IsAlwaysCallable predicate.now }
     ensures { (says : List ℕ → Bool) → AnswersBy (F.post predicate.now) says →
@@ -28,7 +28,7 @@ fn is_flag_named<F: Fn(&ExtraName) -> bool>(flag: &Flag, predicate: &F) -> bool
     }
 }
 
-/// Whether the root asks for an extra that is named.
+/// Returns whether the root tests an extra that is named.
 fn is_root_named<F: Fn(&ExtraName) -> bool>(root: &Root, predicate: &F) -> bool
     requires { F.IsAlwaysCallable predicate.now }
     ensures { (says : List ℕ → Bool) → AnswersBy (F.post predicate.now) says →
@@ -42,7 +42,7 @@ fn is_root_named<F: Fn(&ExtraName) -> bool>(root: &Root, predicate: &F) -> bool
     }
 }
 
-/// A copy of what stands at a tree's root, a flag with the same on both sides where its extra is named.
+/// Returns a copy of a tree's root, in which a flag whose extra is named has the same child on both sides.
 pub(crate) fn named_root<F: Fn(&ExtraName) -> bool>(
     alloc: Global,
     interner: &Interner,
@@ -59,7 +59,7 @@ pub(crate) fn named_root<F: Fn(&ExtraName) -> bool>(
     Ok(root.with_set(is_named))
 }
 
-/// The tree with the named extras taken as present. No recursion, however deep the tree is.
+/// Returns the tree with the named extras assumed to be present. No recursion, however deep the tree is.
 pub(crate) fn with_extras<F: Fn(&ExtraName) -> bool>(
     alloc: Global,
     interner: &mut Interner,
@@ -80,7 +80,7 @@ pub(crate) fn with_extras<F: Fn(&ExtraName) -> bool>(
     Ok(signed)
 }
 
-/// The same of listed extras.
+/// Returns the tree with the listed extras assumed to be present.
 pub(crate) fn with_listed(
     alloc: Global,
     interner: &mut Interner,

@@ -1,4 +1,8 @@
 //! Trees that are simplified to a range of versions of Python.
+//!
+//! Only the first two variables matter, `implementation_version` and `python_full_version`, so nothing
+//! deeper is looked at and nothing recurses. The memo of the trees below the first is by place and sign,
+//! since with an empty range a tree and its negation both become false.
 
 ghost use Rattle.std.specs.Prelude.{◌≡◌, IfOk};
 ghost use Rattle.std.specs.List.{AllByRecursion};
@@ -20,7 +24,7 @@ use std::alloc::{AllocError, Global};
 use std::collections::BTreeMap;
 use std::ops::Bound;
 
-/// Whether `implementation_version` is asked first.
+/// Returns whether the tree tests `implementation_version` first.
 fn asks_implementation(interner: &Interner, tree: MarkerTree) -> bool
     requires { IsTree interner.now.nodes tree }
     ensures { result ≡ asks_implementation (root_of interner.now.nodes tree) }
@@ -31,7 +35,7 @@ fn asks_implementation(interner: &Interner, tree: MarkerTree) -> bool
     }
 }
 
-/// Whether `python_full_version` is asked first.
+/// Returns whether the tree tests `python_full_version` first.
 fn asks_python(interner: &Interner, tree: MarkerTree) -> bool
     requires { IsTree interner.now.nodes tree }
     ensures { result ≡ asks_python (root_of interner.now.nodes tree) }
@@ -42,8 +46,8 @@ fn asks_python(interner: &Interner, tree: MarkerTree) -> bool
     }
 }
 
-/// What stands between two bounds of `python_full_version`, a tree and branches; where something else is
-/// asked first, the tree alone. Copies what it keeps.
+/// Returns the children between two bounds of `python_full_version`, a tree and branches; where the tree
+/// tests something else first, the tree alone. Copies what it keeps.
 fn cut(
     alloc: Global,
     interner: &Interner,
@@ -66,7 +70,7 @@ fn cut(
     }
 }
 
-/// A tree that doesn't ask of `implementation_version`, simplified to the range.
+/// Returns a tree that doesn't test `implementation_version`, simplified to the range.
 fn narrowed(
     alloc: Global,
     interner: &mut Interner,
@@ -92,7 +96,8 @@ fn narrowed(
     interner.versions_node(VersionVariable::PythonFullVersion, first, later)
 }
 
-/// The same by a memo, so that a tree that stands on several sides is simplified once.
+/// Returns a tree simplified to the range, as `narrowed` does, remembering it so that a child of several
+/// endpoints is simplified once.
 fn narrowed_once(
     alloc: Global,
     interner: &mut Interner,
@@ -121,7 +126,7 @@ fn narrowed_once(
     Ok(simple)
 }
 
-/// The same of several trees, in turn.
+/// Returns several trees simplified to the range, in order.
 fn all_narrowed(
     alloc: Global,
     interner: &mut Interner,
@@ -145,7 +150,7 @@ fn all_narrowed(
     Ok(simple)
 }
 
-/// A tree that is simplified to the range. `implementation_version` and then `python_full_version` are the
+/// Returns a tree simplified to the range. `implementation_version` and then `python_full_version` are the
 /// first two variables, so nothing below them is looked at.
 pub(crate) fn simplified(
     alloc: Global,

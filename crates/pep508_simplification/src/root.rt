@@ -1,4 +1,4 @@
-//! What stands at a tree's root, as a copy that can be changed and made a tree again.
+//! Copies of a tree's root, which can be changed and made a tree again.
 
 ghost use Rattle.std.specs.Prelude.{◌≡◌, ◌∷◌, map, Some, IfOk, IfSome, MatchOption};
 ghost use Rattle.pep508_tree.specs.Meaning.{IsTree, Extends};
@@ -14,7 +14,8 @@ use pep508_tree::{Interner, MarkerTree, TreeNode};
 use std::alloc::{AllocError, Global};
 use version_ranges::Boundary;
 
-/// What is asked first in a tree, and what stands for each answer. A constant tree asks nothing.
+/// The variable that a tree tests first, and the child for each of its values. A constant tree tests
+/// nothing.
 #[derive(Drop)]
 pub(crate) enum Root {
     Constant,
@@ -63,7 +64,7 @@ fn copy_of_flag(alloc: Global, flag: &Flag) -> Result<Flag, AllocError>
     })
 }
 
-/// What stands at a tree's root, with the tree's sign on its children. Copies the node.
+/// Returns a copy of a tree's root, with the tree's negation applied to its children.
 #[tactic(auto, using(crate::proofs::Rooted::copy_versions, crate::proofs::Rooted::copy_texts, crate::proofs::Rooted::known_versions, crate::proofs::Rooted::known_texts))]
 pub(crate) fn copy_of_root(
     alloc: Global,
@@ -106,7 +107,7 @@ fn children_between<T>(
     Ok(trees)
 }
 
-/// Branches between the same boundaries with other trees. Neighbours that are one tree are joined.
+/// Returns branches between the same endpoints with other trees. Equal neighbours are joined.
 fn joined<T: Drop>(
     alloc: Global,
     first: MarkerTree,
@@ -133,7 +134,7 @@ fn joined<T: Drop>(
     Ok(branches)
 }
 
-/// The first of trees, and the others.
+/// Returns the first of trees, and the others.
 fn first_and_others(trees: &[MarkerTree]) -> (MarkerTree, &[MarkerTree])
     ensures first { result.0 ≡ head trees.now }
     ensures others { result.1.now ≡ tail trees.now }
@@ -145,7 +146,7 @@ fn first_and_others(trees: &[MarkerTree]) -> (MarkerTree, &[MarkerTree])
 }
 
 impl Root {
-    /// What stands for each answer, in turn.
+    /// Returns the children, in order.
     pub fn children(&self, alloc: Global) -> Result<Vec<MarkerTree>, AllocError>
         ensures { IfOk result (λ trees. trees.items ≡ children_of (record_of self.now)) }
     {
@@ -157,7 +158,7 @@ impl Root {
         }
     }
 
-    /// A flag with the same on both sides, where that is wanted.
+    /// Returns the root; where `named`, with a flag's set child on both sides.
     pub fn with_set(self, named: bool) -> Root
         ensures { record_of result ≡ with_set named (record_of self) }
     {
@@ -171,7 +172,8 @@ impl Root {
         }
     }
 
-    /// The tree of the node with other trees in it, in turn; of a constant the tree that it was copied of.
+    /// Returns the tree of the root with other children, in order; for a constant the tree of which it is a
+    /// copy.
     pub fn rejoined(
         self,
         alloc: Global,

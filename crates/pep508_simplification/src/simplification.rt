@@ -1,4 +1,4 @@
-//! Simplifications, as calls on trees.
+//! Simplifications, as a trait of trees.
 
 ghost use Rattle.std.specs.Prelude.{◌≡◌, ◌&&◌, ℕ, Bool, List, IfOk};
 ghost use Rattle.pep440_specifier.specs.Bounds.{lent_bound};
@@ -17,17 +17,17 @@ use pep508_tree::{Interner, MarkerTree};
 use std::alloc::{AllocError, Global};
 use std::ops::Bound;
 
-/// What is made of a marker tree by what is known of environments. Each call's only refusal is want of
-/// memory; earlier trees mean what they meant, refused or not, and no conjunction is counted.
+/// Simplifying a marker tree by known properties of environments. Each call's only error is lack of memory;
+/// earlier trees keep their meaning, also after an error, and no conjunction is counted.
 pub trait MarkerTreeSimplification: Sized {
     ghost use Rattle.pep508_tree.specs.Tree.{Tree};
 
-    /// The tree.
+    /// The tree that a value is.
     ghost tree: { Self → Tree };
 
-    /// The tree that holds where this one does and `python_full_version` lies between the bounds. Bounds are
-    /// kept without the zeros at the end of their releases. Costs what a conjunction with a tree of two
-    /// boundaries does.
+    /// Returns the tree that holds where this one does and `python_full_version` lies between the bounds.
+    /// Bounds are kept without the zeros at the end of their releases. Costs what a conjunction with a tree
+    /// of two endpoints does.
     fn complexify_python_versions(
         self,
         alloc: Global,
@@ -43,11 +43,11 @@ pub trait MarkerTreeSimplification: Sized {
         ensures keeps { Extends interner.old.nodes interner.new.nodes }
         ensures counts { interner.new.conjunctions ≡ interner.old.conjunctions };
 
-    /// The tree that says the same where `python_full_version` lies between the bounds, and asks of it no
-    /// more than that takes: below them it says what it says where they begin, above them what it says from
-    /// some point on up to their end. Where no point lies between them, what depends on
-    /// `python_full_version` becomes false. Compares each boundary of a version of Python with both bounds,
-    /// and copies what is kept.
+    /// Returns the tree simplified by assuming that `python_full_version` lies between the bounds: there it
+    /// means the same, and it tests no more of `python_full_version` than that takes. Below the bounds it
+    /// is what it is where they begin, above them what it is from some point on up to their end. Where no
+    /// point lies between them, what depends on `python_full_version` becomes false. Compares each endpoint
+    /// of a version of Python with both bounds, and copies what is kept.
     fn simplify_python_versions(
         self,
         alloc: Global,
@@ -63,9 +63,9 @@ pub trait MarkerTreeSimplification: Sized {
         ensures keeps { Extends interner.old.nodes interner.new.nodes }
         ensures counts { interner.new.conjunctions ≡ interner.old.conjunctions };
 
-    /// The tree with the extras taken as present for which the predicate answers true; extras that are no
-    /// names are never asked for. Copies each node of the tree once; looks up trees that were met. No
-    /// recursion, however deep the tree is.
+    /// Returns the tree simplified by assuming that the extras are present for which the predicate returns
+    /// true; it is never called for an extra that is not a name. Copies each node of the tree once; looks
+    /// up trees that were met. No recursion, however deep the tree is.
     fn simplify_extras_with<F: Fn(&ExtraName) -> bool>(
         self,
         alloc: Global,
@@ -81,7 +81,8 @@ pub trait MarkerTreeSimplification: Sized {
         ensures keeps { Extends interner.old.nodes interner.new.nodes }
         ensures counts { interner.new.conjunctions ≡ interner.old.conjunctions };
 
-    /// The same of listed extras. Each extra in the tree is compared with all of them.
+    /// Returns the tree simplified by assuming that the listed extras are present. Each extra in the tree
+    /// is compared with all of them.
     fn simplify_extras(
         self,
         alloc: Global,

@@ -1,4 +1,6 @@
-//! Trees in which the named extras are taken as present, by a walk over plain trees.
+//! Trees in which the named extras are assumed to be present, by a walk over trees without negation.
+//!
+//! A tree waits for those in its node as a conjunction does, on a list and not on the stack.
 
 ghost use Rattle.std.specs.Prelude.{◌≡◌, ◌<◌, ◌≤◌, ◌++◌, ◌∷◌, [], length, take, None, Some};
 ghost use Rattle.std.specs.Prelude.{IfOk, OnOk, MatchOption};
@@ -17,7 +19,7 @@ use pep508_tree::{Interner, MarkerTree};
 use std::alloc::{AllocError, Global};
 use std::collections::BTreeMap;
 
-/// What was found for the plain tree at a place, if it was asked for before.
+/// Returns the result for the plain tree at a place, if it is remembered.
 fn recalled<F: Fn(&ExtraName) -> bool>(
     interner: &Interner,
     known: &BTreeMap<usize, MarkerTree>,
@@ -34,7 +36,7 @@ fn recalled<F: Fn(&ExtraName) -> bool>(
     }
 }
 
-/// Remembers what was found for the plain tree at a place.
+/// Remembers the result for the plain tree at a place.
 fn remember<F: Fn(&ExtraName) -> bool>(
     interner: &Interner,
     known: &mut BTreeMap<usize, MarkerTree>,
@@ -51,7 +53,7 @@ fn remember<F: Fn(&ExtraName) -> bool>(
     Ok(())
 }
 
-/// A plain tree that waits for those that stand in its node. What is found for the first of these is there.
+/// A plain tree that waits for the results of its children. Those of the first children are there.
 #[derive(Drop)]
 pub(crate) struct Pending {
     tree: MarkerTree,
@@ -60,7 +62,7 @@ pub(crate) struct Pending {
     trees: Vec<MarkerTree>,
 }
 
-/// A plain tree that waits for all that stand in its node.
+/// Returns a plain tree that waits for the results of all its children.
 fn begun<F: Fn(&ExtraName) -> bool>(
     alloc: Global,
     interner: &Interner,
@@ -83,8 +85,8 @@ fn begun<F: Fn(&ExtraName) -> bool>(
     })
 }
 
-/// Adds what is known of further trees that stand in a tree to what is there, up to the first of which
-/// nothing is; that one without its sign.
+/// Appends the known results of further children to those that are there, up to the first child without
+/// one, and returns that child without its negation.
 fn next_unknown<F: Fn(&ExtraName) -> bool>(
     interner: &Interner,
     known: &BTreeMap<usize, MarkerTree>,
@@ -117,7 +119,8 @@ fn next_unknown<F: Fn(&ExtraName) -> bool>(
     Ok(None)
 }
 
-/// The same of a tree that waits.
+/// Appends the known results of further children of a waiting tree, up to the first child without one, and
+/// returns that child without its negation.
 fn look_on<F: Fn(&ExtraName) -> bool>(
     interner: &Interner,
     known: &BTreeMap<usize, MarkerTree>,
@@ -143,7 +146,7 @@ fn look_on<F: Fn(&ExtraName) -> bool>(
     )
 }
 
-/// What is found for a tree for which all is there that it waited for. It is known from now on.
+/// Returns the result for a tree once all results are there that it waited for, and remembers it.
 fn finished<F: Fn(&ExtraName) -> bool>(
     alloc: Global,
     interner: &mut Interner,
@@ -167,7 +170,7 @@ fn finished<F: Fn(&ExtraName) -> bool>(
     Ok(simple)
 }
 
-/// Puts a tree behind one in which it stands.
+/// Pushes a tree, and then one of its children.
 fn put_behind(waiting: &mut Vec<Pending>, top: Pending, below: Pending) -> Result<(), AllocError>
     ensures { OnOk result (waiting.new.items ≡ (waiting.old.items ++ top ∷ []) ++ below ∷ []) }
 {
@@ -176,8 +179,8 @@ fn put_behind(waiting: &mut Vec<Pending>, top: Pending, below: Pending) -> Resul
     Ok(())
 }
 
-/// What is found for a plain tree. What waits stands on a list, each tree behind one in which it stands, so
-/// that a long path takes memory and no stack.
+/// Returns the result for a plain tree. The waiting trees are kept in a list, each after one whose child it
+/// is, so that a long path takes memory and no stack.
 pub(crate) fn walked<F: Fn(&ExtraName) -> bool>(
     alloc: Global,
     interner: &mut Interner,

@@ -1,4 +1,4 @@
-//! What of branches between rising boundaries lies between two bounds.
+//! The part of branches between rising endpoints that lies between two bounds.
 
 ghost use Rattle.std.specs.Prelude.{◌≡◌, map, IfOk};
 ghost use Rattle.std.specs.Ordering.{is_lt};
@@ -21,7 +21,7 @@ use std::alloc::{AllocError, Global};
 use std::ops::Bound;
 use version_ranges::Boundary;
 
-/// Whether the boundary comes up to the point from which the lower bound holds.
+/// Returns whether the endpoint is at or below the point from which the lower bound holds.
 fn starts_by(boundary: &Boundary<Version>, lower: Bound<&Version>) -> bool
     ensures { result ≡ reaches (point_cmp version_cmp) (point_of boundary.now)
         (start_point (lent_bound lower.entry)) }
@@ -35,7 +35,7 @@ fn starts_by(boundary: &Boundary<Version>, lower: Bound<&Version>) -> bool
     }
 }
 
-/// Whether the upper bound goes on to the boundary's point.
+/// Returns whether the upper bound still holds at the endpoint's point.
 fn goes_on_to(boundary: &Boundary<Version>, upper: Bound<&Version>) -> bool
     ensures { result ≡ goes_on_to version_cmp (lent_bound upper.entry) (point_of boundary.now) }
 {
@@ -48,7 +48,7 @@ fn goes_on_to(boundary: &Boundary<Version>, upper: Bound<&Version>) -> bool
     }
 }
 
-/// Whether some point lies between the bounds, which the lower bound's first then does.
+/// Returns whether some point lies between the bounds; then the first point of the lower bound does.
 pub(crate) fn hold_some(lower: Bound<&Version>, upper: Bound<&Version>) -> bool
     ensures { result ≡ goes_on_to version_cmp (lent_bound upper.entry)
         (start_point (lent_bound lower.entry)) }
@@ -63,7 +63,7 @@ pub(crate) fn hold_some(lower: Bound<&Version>, upper: Bound<&Version>) -> bool
     }
 }
 
-/// What stands where a lower bound begins to hold, and the branches behind that.
+/// Returns the child where a lower bound begins to hold, and the branches after that.
 pub(crate) fn behind<'a>(
     first: MarkerTree,
     later: &'a [Branch<Version, MarkerTree>],
@@ -84,7 +84,7 @@ pub(crate) fn behind<'a>(
     (child, left)
 }
 
-/// A copy of the branches before the end of an upper bound, each tree negated where the flag is set.
+/// Returns a copy of the branches before the end of an upper bound, each tree negated where `negated`.
 pub(crate) fn copy_up_to(
     alloc: Global,
     later: &[Branch<Version, MarkerTree>],

@@ -1,4 +1,4 @@
--- Numbers by which things are told apart: what is equal has one number.
+-- Hashes of things: equal things have one number.
 use Rattle.std.specs.Prelude.{ℕ, ◌+◌, ◌*◌, ◌%◌, ◌^◌, List, [], ◌∷◌, get_or}
 use Rattle.pep440_text.specs.Record.{VersionRecord}
 

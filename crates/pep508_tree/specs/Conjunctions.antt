@@ -1,4 +1,4 @@
--- What a conjunction of two trees is.
+-- The conjunction of two trees.
 use Rattle.std.specs.Prelude.{◌≡◌, ℕ, ◌&&◌, List, [], ◌∷◌}
 use Rattle.pep508_diagram.specs.Question.{Valuation}
 use Rattle.pep508_tree.specs.Tree.{Tree}
@@ -15,7 +15,7 @@ pub record Conjunction (old new : List NodeRecord) (a b tree : Tree) : Type 0 wh
 abbrev pub ArePairs : List NodeRecord → List NodeRecord → Tree → Tree → Tree × Tree → Tree → Type 0
 ArePairs old new a b pair tree = Conjunction old new (turned a.negated pair.0) (turned b.negated pair.1) tree
 
--- as many elements, each of which meets the condition with its counterpart
+-- equally many elements, each of which meets the condition with its counterpart
 abbrev pub Meet : {C D : Type 0} → (C → D → Type 0) → List C → List D → Type 0
 Meet R [] [] = Unit {0}
 Meet R [] (y ∷ ys) = ⊥

@@ -7,6 +7,6 @@ pub record InternerRecord : Type 0 where
   pub nodes : List NodeRecord
   pub conjunctions : ℕ
 
--- one more, as far as a number of 64 bits goes
+-- one more, up to the greatest number of 64 bits
 abbrev pub counted : ℕ → ℕ
 counted n = min (n + 1) (2 ^ 64 - 1)

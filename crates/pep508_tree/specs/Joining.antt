@@ -1,4 +1,4 @@
--- Nodes whose children are given anew, in turn.
+-- Nodes with new children, in order.
 use Rattle.std.specs.Prelude.{cond, List, [], ◌∷◌, map}
 use Rattle.std.specs.Ordering.{is_eq}
 use Rattle.pep508_diagram.specs.declared.branch.Branch.{Branch}
@@ -6,13 +6,13 @@ use Rattle.pep508_tree.specs.Tree.{Tree, always}
 use Rattle.pep508_tree.specs.Meaning.{NodeOf, NodeRecord, Versions, Texts, Flagged}
 use Rattle.pep508_tree.specs.Nodes.{tree_cmp}
 
--- the children of a node, in turn
+-- the children of a node, in order
 abbrev pub children : {C : Type 0} → NodeOf C → List C
 children (Versions key first later) = first ∷ map (λ branch. branch.child) later
 children (Texts key first later) = first ∷ map (λ branch. branch.child) later
 children (Flagged flag set unset) = set ∷ unset ∷ []
 
--- branches between the same boundaries, with these trees; a tree on both sides of a boundary stands once
+-- branches between the same endpoints, with these trees; equal neighbours are joined
 abbrev pub joined : {T C : Type 0} → Tree → List (Branch T C) → List Tree → List (Branch T Tree)
 joined last [] trees = []
 joined last (branch ∷ later) [] = []
@@ -29,7 +29,7 @@ abbrev pub tail : List Tree → List Tree
 tail [] = []
 tail (tree ∷ trees) = trees
 
--- the node with these trees as children, neighbours that are one tree joined
+-- the node with these trees as children, equal neighbours joined
 abbrev pub node_joined : {C : Type 0} → NodeOf C → List Tree → NodeRecord
 node_joined (Versions key first later) trees = Versions key (head trees)
     (joined (head trees) later (tail trees))

@@ -11,7 +11,7 @@ use Rattle.pep508_diagram.specs.Chains.{chain}
 use Rattle.pep508_diagram.specs.Question.{Question, VersionBelow, TextBelow, IsSet, Valuation, truth}
 use Rattle.pep508_tree.specs.Tree.{Tree}
 
--- a node: what stands between a key's boundaries, or for either truth of a flag
+-- a node: the children between a key's endpoints, or for either truth of a flag
 pub data NodeOf (C : Type 0) : Type 0 where
   Versions : VersionVariable → C → List (Branch VersionRecord C) → NodeOf C
   Texts : MarkerValueString → C → List (Branch (List ℕ) C) → NodeOf C
@@ -31,7 +31,7 @@ node_diagram at (Flagged flag set unset) = Test (IsSet flag) (at set) (at unset)
 abbrev pub tree_diagram : List (Diagram Question) → Tree → Diagram Question
 tree_diagram diagrams tree = turned_by tree.negated (get_or diagrams tree.place (Leaf true))
 
--- the diagrams at the places of nodes, behind those that stand already
+-- the diagrams at the places of nodes, after those that are there already
 abbrev pub fill : List (Diagram Question) → List NodeRecord → List (Diagram Question)
 fill diagrams [] = diagrams
 fill diagrams (node ∷ nodes) = fill (diagrams ++ node_diagram (tree_diagram diagrams) node ∷ []) nodes
@@ -40,7 +40,7 @@ fill diagrams (node ∷ nodes) = fill (diagrams ++ node_diagram (tree_diagram di
 unfoldable pub diagrams : List NodeRecord → List (Diagram Question)
 diagrams nodes = fill (Leaf true ∷ []) nodes
 
--- what a tree of an interner means
+-- the diagram of a tree of an interner
 abbrev pub diagram_of : List NodeRecord → Tree → Diagram Question
 diagram_of nodes tree = tree_diagram (diagrams nodes) tree
 
@@ -48,7 +48,7 @@ diagram_of nodes tree = tree_diagram (diagrams nodes) tree
 abbrev pub holds : List NodeRecord → Tree → Valuation → Bool
 holds nodes tree v = truth (diagram_of nodes tree) v
 
--- the tree was made of these nodes
+-- the tree belongs to these nodes
 abbrev pub IsTree : List NodeRecord → Tree → Type 0
 IsTree nodes tree = tree.place ≤ length nodes
 

@@ -1,4 +1,4 @@
--- Nodes: what is asked of which variable, what stands for each answer, and the order of nodes.
+-- Nodes: the variable, the child for each of its values, and the order of nodes.
 use Rattle.std.specs.Prelude.{◌≡◌, ◌⊎◌, ℕ, ◌≤◌, ◌<◌, ◌+◌, ◌-◌, Bool, true, false, cond, List, [], ◌∷◌, length}
 use Rattle.std.specs.Prelude.{map}
 use Rattle.std.specs.declared.cmp.Ordering.{Ordering}
@@ -20,7 +20,7 @@ use Rattle.pep508_diagram.specs.Question.{Valuation, version_rank, text_rank, fl
 use Rattle.pep508_tree.specs.Tree.{Tree, always, negation}
 use Rattle.pep508_tree.specs.Meaning.{NodeOf, NodeRecord, Versions, Texts, Flagged, holds, IsTree}
 
--- the tree, with its leaves turned where the flag is set
+-- the tree, with its leaves negated where the flag is set
 abbrev pub turned : Bool → Tree → Tree
 turned turns tree = record tree { negated = flips turns tree.negated }
 
@@ -40,9 +40,9 @@ node_text (Flagged flag set unset) = flag_text flag
 abbrev pub node_place : {C : Type 0} → NodeOf C → List ℕ
 node_place node = node_rank node ∷ node_text node
 
--- ---- what stands in a node
+-- ---- the children of a node
 
--- what stands at a valuation
+-- the child at a valuation
 abbrev pub chosen : {C : Type 0} → NodeOf C → Valuation → C
 chosen (Versions key first later) v = branch_at version_cmp first later (v.version key)
 chosen (Texts key first later) v = branch_at text_cmp first later (v.text key)
@@ -58,7 +58,7 @@ IsChildIn child (Versions key first later) = IsChild child first later
 IsChildIn child (Texts key first later) = IsChild child first later
 IsChildIn child (Flagged flag set unset) = (child ≡ set) ⊎ (child ≡ unset)
 
--- the boundaries rise
+-- the endpoints rise
 abbrev pub IsRising : {C : Type 0} → NodeOf C → Type 0
 IsRising (Versions key first later) = RisingBranches version_cmp later
 IsRising (Texts key first later) = RisingBranches text_cmp later
@@ -70,13 +70,13 @@ ChildrenDiffer (Versions key first later) = NeighboursDiffer first later
 ChildrenDiffer (Texts key first later) = NeighboursDiffer first later
 ChildrenDiffer (Flagged flag set unset) = set ≡ unset → ⊥
 
--- neighbouring children between boundaries differ
+-- neighbouring children between endpoints differ
 abbrev pub IsJoined : {C : Type 0} → NodeOf C → Type 0
 IsJoined (Versions key first later) = NeighboursDiffer first later
 IsJoined (Texts key first later) = NeighboursDiffer first later
 IsJoined (Flagged flag set unset) = Unit {0}
 
--- each boundary of versions is at a shortest spelling
+-- each endpoint of versions is at a shortest spelling
 abbrev pub HasShortBounds : {C : Type 0} → NodeOf C → Type 0
 HasShortBounds (Versions key first later) = AllShort later
 HasShortBounds (Texts key first later) = Unit {0}
@@ -119,7 +119,7 @@ turned_node (Versions key first later) = Versions key (negation first) (map turn
 turned_node (Texts key first later) = Texts key (negation first) (map turned_branch later)
 turned_node (Flagged flag set unset) = Flagged flag (negation set) (negation unset)
 
--- the node with each boundary of versions at its shortest spelling
+-- the node with each endpoint of versions at its shortest spelling
 abbrev pub short_node : {C : Type 0} → NodeOf C → NodeOf C
 short_node (Versions key first later) = Versions key first (map shortened_branch later)
 short_node (Texts key first later) = Texts key first later
@@ -132,7 +132,7 @@ counterpart (Versions key f l) first versions texts second = Versions key first 
 counterpart (Texts key f l) first versions texts second = Texts key first texts
 counterpart (Flagged flag s u) first versions texts second = Flagged flag first second
 
--- a node of the pairs of what stands in two nodes of one variable
+-- a node of the pairs of the children of two nodes of one variable
 pub record Paired (a b : NodeRecord) (pairs : NodeOf (Tree × Tree)) : Type 0 where
   pub place_is : node_place pairs ≡ node_place a
   pub rises : IsRising pairs
@@ -148,7 +148,7 @@ abbrev pub branch_cmp : {T : Type 0} → (T → T → Ordering) → Branch T Tre
 branch_cmp cmp =
     then_cmp (on (λ branch. branch.boundary) (boundary_cmp cmp)) (on (λ branch. branch.child) tree_cmp)
 
--- by the first and the second child, which tell most nodes apart, then by the variable and the branches
+-- by the first and the second child, which differ for most nodes, then by the variable and the branches
 unfoldable pub node_cmp : NodeRecord → NodeRecord → Ordering
 node_cmp =
     then_cmp (on first_child tree_cmp)
@@ -169,12 +169,12 @@ node_at nodes k = get_or nodes k no_node
 abbrev pub first_place : List NodeRecord → Tree → List ℕ
 first_place nodes tree = node_place (node_at nodes (tree.place - 1))
 
--- the tree asks first of a variable behind the place
+-- the tree first tests a variable after the place
 unfoldable pub Above : List NodeRecord → List ℕ → Tree → Type 0
 Above nodes place tree =
     (k : ℕ) → tree.place ≡ k + 1 → text_cmp place (node_place (node_at nodes k)) ≡ Less
 
--- what may stand at a place of the interner
+-- a node that is allowed at a place of the interner
 pub record IsSoundNode (nodes : List NodeRecord) (place : ℕ) (node : NodeRecord) : Type 0 where
   pub before : AllChildren (λ child. child.place ≤ place) node
   pub above : AllChildren (Above nodes (node_place node)) node
@@ -190,7 +190,7 @@ pub record AreSound (nodes : List NodeRecord) : Type 0 where
   pub once : (i j : ℕ) → i < length nodes → j < length nodes →
       node_cmp (node_at nodes i) (node_at nodes j) ≡ Equal → i ≡ j
 
--- ---- what the calls answer
+-- ---- results of the calls
 
 -- two trees by their first variable
 pub record Splits (nodes : List NodeRecord) (a b : Tree) (pairs : NodeOf (Tree × Tree)) : Type 0 where
@@ -218,13 +218,13 @@ abbrev pub signed : Bool → NodeRecord → NodeRecord
 signed true node = turned_node node
 signed false node = node
 
--- the same stands for each answer
+-- the child is the same for each value
 abbrev pub IsAlone : {C : Type 0} → NodeOf C → Type 0
 IsAlone (Versions key first later) = later ≡ []
 IsAlone (Texts key first later) = later ≡ []
 IsAlone (Flagged flag set unset) = set ≡ unset
 
--- a node stands at a place, up to the spelling of equal versions
+-- a node is at a place, up to the spelling of equal versions
 pub record IsPlaced (nodes : List NodeRecord) (node : NodeRecord) (place : ℕ) : Type 0 where
   pub index : ℕ
   pub place_is : place ≡ index + 1

@@ -7,7 +7,7 @@ use Rattle.pep508_tree.specs.declared.tree_pair.TreePair.{TreePair}
 use Rattle.pep508_tree.specs.Nodes.{tree_cmp}
 use Rattle.pep508_tree.specs.NodeLaws.{trees_total}
 
--- the sum of the two places, which is less for what stands in two trees than for these
+-- the sum of the two places, which is less for the children of two trees than for these
 abbrev pub places : TreePair → ℕ
 places pair = pair.first.place + pair.second.place
 

@@ -1,4 +1,4 @@
--- Conjunctions that wait for those of the pairs that stand in their trees.
+-- Conjunctions that wait for those of the pairs of their trees' children.
 use Rattle.std.specs.Prelude.{◌≡◌, ◌⊎◌, ◌<◌, false, List, None, length, take}
 use Rattle.std.specs.Ordering.{is_gt}
 use Rattle.std.specs.BTreeMap.{BTreeMap, get}
@@ -19,7 +19,7 @@ IsEither a b asked =
     ◌≡◌ {A = Tree × Tree} (asked.first, asked.second) (a, b)
     ⊎ ◌≡◌ {A = Tree × Tree} (asked.first, asked.second) (b, a)
 
--- two trees that are not constant, first the one whose first variable does not come after that of the other
+-- two trees that are not constant, sorted by their first variables
 pub record AreInOrder (nodes : List NodeRecord) (asked : TreePair) : Type 0 where
   pub first : IsTree nodes asked.first
   pub second : IsTree nodes asked.second
@@ -33,7 +33,7 @@ pub record IsAsked (nodes : List NodeRecord) (known : BTreeMap TreePair Tree) (a
   pub trees : AreInOrder nodes asked
   pub unknown : get pair_cmp known asked ≡ None
 
--- what waits has the pairs that stand in its trees, and the conjunctions of the first of them
+-- a waiting conjunction has the pairs of its trees' children, and the conjunctions of the first of them
 pub record IsPending (nodes : List NodeRecord) (pending : Pending) : Type 0 where
   pub first : IsTree nodes pending.asked.first
   pub second : IsTree nodes pending.asked.second

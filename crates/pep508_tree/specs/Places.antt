@@ -1,4 +1,4 @@
--- Where each node stands.
+-- The place of each node.
 use Rattle.std.specs.Prelude.{◌≡◌, ℕ, ◌<◌, List, length, map, MatchOption}
 use Rattle.std.specs.BTreeMap.{BTreeMap, get}
 use Rattle.std.specs.declared.rc.Rc.{Rc}

@@ -1,4 +1,4 @@
--- What stands at the root of a tree.
+-- The root of a tree.
 use Rattle.std.specs.Prelude.{◌≡◌, ◌==◌, ◌-◌, ◌<◌, Bool, not, if◌then◌else◌, List, Option, Some, None}
 use Rattle.pep508_diagram.specs.Question.{Valuation}
 use Rattle.pep508_tree.specs.declared.root.TreeNode.{TreeNode}
@@ -8,12 +8,12 @@ use Rattle.pep508_tree.specs.Meaning.{NodeRecord, Versions, Texts, Flagged, hold
 use Rattle.pep508_tree.specs.Nodes.{AllChildren, IsRising, ChildrenDiffer, HasBoundary, Above, chosen}
 use Rattle.pep508_tree.specs.Nodes.{node_at, node_place, first_place, signed}
 
--- the node at the tree's place, with the tree's sign put on its children; a constant has none
+-- the node at the tree's place, with the tree's negation applied to its children; a constant has none
 abbrev pub root_of : List NodeRecord → Tree → Option NodeRecord
 root_of nodes tree =
     if tree.place == 0 then None else Some (signed tree.negated (node_at nodes (tree.place - 1)))
 
--- a node that is lent, as a record
+-- a borrowed node as a record
 abbrev pub shown : TreeNode → Option NodeRecord
 shown (lent.Constant truth) = None
 shown (lent.Versions key children) =
@@ -22,7 +22,7 @@ shown (lent.Texts key children) =
     Some (signed children.negated (Texts key children.first children.later.now))
 shown (lent.Flagged flag set unset) = Some (Flagged flag.now set unset)
 
--- a constant that is lent meets the condition
+-- a borrowed constant meets the condition
 abbrev pub IfConstant : TreeNode → (Bool → Type 0) → Type 0
 IfConstant (lent.Constant truth) P = P truth
 IfConstant (lent.Versions key children) P = Unit {0}
@@ -35,8 +35,8 @@ pub record IsConstant (nodes : List NodeRecord) (tree : Tree) (truth : Bool) : T
   pub sign_is : truth ≡ not tree.negated
   pub holds_is : (v : Valuation) → holds nodes tree v ≡ truth
 
--- what is known of the node at a tree's root: its children are trees that were made earlier and ask for later
--- variables only, and the tree holds where the child does that stands at the valuation
+-- what is known of the node at a tree's root: its children are trees that were made earlier and test later
+-- variables only, and the tree holds where the child at the valuation does
 pub record IsRoot (nodes : List NodeRecord) (tree : Tree) (node : NodeRecord) : Type 0 where
   pub made : AllChildren (IsTree nodes) node
   pub falls : AllChildren (λ child. child.place < tree.place) node

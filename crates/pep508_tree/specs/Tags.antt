@@ -1,4 +1,4 @@
--- Numbers by which nodes are told apart, and the order of nodes by these first.
+-- Hashes of nodes, and the order of nodes by these first.
 use Rattle.std.specs.Prelude.{ℕ, List, [], ◌∷◌}
 use Rattle.std.specs.declared.cmp.Ordering.{Ordering}
 use Rattle.std.specs.Ordering.{on, then_cmp, nat_cmp}
@@ -11,12 +11,12 @@ use Rattle.pep508_tree.specs.Meaning.{NodeRecord}
 use Rattle.pep508_tree.specs.Nodes.{node_rank, node_text, first_child, second_child, node_cmp}
 use Rattle.pep508_tree.specs.Nodes.{version_branches, text_branches}
 
--- the number of a boundary's value
+-- the number of an endpoint's value
 abbrev pub boundary_tag : {T : Type 0} → (T → ℕ) → Boundary T → ℕ
 boundary_tag tag (boundary.At value) = tag value
 boundary_tag tag (boundary.JustAbove value) = tag value
 
--- the number of what stands from the first boundary on
+-- the number of the first endpoint and the child from it on
 abbrev pub branches_tag : {T : Type 0} → (T → ℕ) → List (Branch T Tree) → ℕ
 branches_tag tag [] = 0
 branches_tag tag (branch ∷ later) = mixed branch.child.place (boundary_tag tag branch.boundary)

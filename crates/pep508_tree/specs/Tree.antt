@@ -2,7 +2,7 @@
 use Rattle.std.specs.Prelude.{ℕ, Bool, true, false, not}
 
 -- the place of a diagram, of which place 0 is the leaf that is true, and whether the diagram's leaves are
--- turned
+-- negated
 pub record Tree : Type 0 where
   pub place : ℕ
   pub negated : Bool
@@ -19,6 +19,6 @@ never = record { place = 0; negated = true }
 abbrev pub constant : Bool → Tree
 constant truth = record { place = 0; negated = not truth }
 
--- the tree of the same diagram with its leaves turned
+-- the tree of the same diagram with its leaves negated
 abbrev pub negation : Tree → Tree
 negation tree = record tree { negated = not tree.negated }

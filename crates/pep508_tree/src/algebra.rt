@@ -10,11 +10,11 @@ use crate::tree::MarkerTree;
 use std::alloc::{AllocError, Global};
 
 impl MarkerTree {
-    /// The tree that holds where both hold. The only refusal is want of memory, and earlier trees mean what
-    /// they meant, refused or not.
+    /// Returns the tree that holds where both hold. The only error is lack of memory, and earlier trees
+    /// keep their meaning, also after an error.
     ///
     /// Takes no more steps than the product of the numbers of the two trees' nodes, each as long as two
-    /// nodes' boundaries. No recursion, however deep the trees are. Takes memory of `alloc` for lists that
+    /// nodes' endpoints. No recursion, however deep the trees are. Takes memory of `alloc` for lists that
     /// are dropped again, and of the interner's for nodes. Counts as one of the interner's conjunctions.
     pub fn and(
         self,
@@ -33,7 +33,7 @@ impl MarkerTree {
         interner.conjoined(alloc, self, other)
     }
 
-    /// The tree that holds where one of both holds. Refusal, cost and count are those of `and`.
+    /// Returns the tree that holds where either holds. Errors, cost and count are those of `and`.
     pub fn or(
         self,
         alloc: Global,

@@ -1,4 +1,16 @@
-//! What makes marker trees.
+//! The interner, which makes and keeps marker trees.
+//!
+//! Conjunctions are remembered until the caller drops them (`forget_conjunctions`): remembering makes it
+//! fast to read many lines with one marker, and no limit suits both that and thousands of lines that share
+//! nothing.
+//!
+//! `uncounted_conjunction` is a function and no method: reading a marker makes many conjunctions that its
+//! caller did not ask for. As a method of `Interner` it would let a crate above meet any bound on
+//! `conjunctions` by not counting, so `pep508_rs` does not re-export it, and `gate/lent.py` sees that only
+//! three crates name it.
+//!
+//! `are_sound` does nothing: the invariant of a model is known only where the fields are visible, and laws
+//! in other crates need it.
 
 ghost use Rattle.std.specs.Prelude.{◌≡◌, ◌<◌, ◌-◌, [], ◌&&◌, IfOk};
 ghost use Rattle.pep508_diagram.specs.Question.{Valuation};
@@ -19,7 +31,7 @@ use std::marker::Model;
 
 /// Makes marker trees, and keeps their nodes, in memory of the allocator that it was made with.
 ///
-/// The constant trees stand in every interner. Nodes are only added, so a tree keeps its meaning.
+/// The constant trees belong to every interner. Nodes are only added, so a tree keeps its meaning.
 #[derive(Drop)]
 pub struct Interner {
     table: NodeTable,
@@ -39,7 +51,7 @@ impl Model for Interner {
 }
 
 impl Interner {
-    /// An interner of the constant trees alone. Takes no memory.
+    /// Returns an interner of the constant trees alone. Takes no memory.
     pub fn new(alloc: Global) -> Interner
         ensures nodes { result.nodes ≡ [] }
         ensures conjunctions { result.conjunctions ≡ 0 }
@@ -51,7 +63,7 @@ impl Interner {
         }
     }
 
-    /// How often `and` and `or` were called with this interner, refused calls among them. Stops at
+    /// Returns how often `and` and `or` were called with this interner, failed calls among them. Stops at
     /// `u64::MAX`.
     pub fn conjunctions(&self) -> u64
         ensures { result ≡ self.now.conjunctions }
@@ -59,25 +71,25 @@ impl Interner {
         self.conjunctions
     }
 
-    /// Lets go of what is remembered of conjunctions, by which one that is asked for again is found at once.
-    /// Trees, their nodes and the count stay.
+    /// Drops the remembered conjunctions, by which one that is made again is found at once. Trees, their
+    /// nodes and the count stay.
     ///
-    /// What is remembered grows with each pair of nodes that conjunctions look at, and is mostly more
-    /// than the nodes; it is let go of with the interner otherwise.
+    /// The remembered conjunctions grow with each pair of nodes that conjunctions look at, and are mostly
+    /// more than the nodes; otherwise they are dropped with the interner.
     pub fn forget_conjunctions(&mut self)
         ensures { self.new ≡ self.old }
     {
         self.known = BTreeMap::new(self.table.allocator());
     }
 
-    /// What the nodes keep. Does nothing.
+    /// Shows that the nodes are sound. Does nothing.
     pub fn are_sound(&self)
         ensures { AreSound self.now.nodes }
     {
         self.table.are_sound()
     }
 
-    /// The conjunction, counted.
+    /// Returns the conjunction, counted.
     pub(crate) fn conjoined(
         &mut self,
         alloc: Global,
@@ -96,7 +108,7 @@ impl Interner {
         uncounted_conjunction(alloc, self, a, b)
     }
 
-    /// The tree of one node whose children are constants, which isn't counted.
+    /// Returns the tree of one node whose children are constants. Counts nothing.
     pub(crate) fn leaf(&mut self, alloc: Global, form: Form<bool>) -> Result<MarkerTree, AllocError>
         requires rises { IsRising (record_of form) }
         requires joined { IsJoined (record_of form) }
@@ -110,7 +122,7 @@ impl Interner {
         self.stored(form)
     }
 
-    /// The tree of a form, of which each child asks for later variables only. Counts nothing.
+    /// Returns the tree of a form whose children test later variables only. Counts nothing.
     pub(crate) fn stored(&mut self, form: Form<MarkerTree>) -> Result<MarkerTree, AllocError>
         requires made { AllChildren (IsTree self.old.nodes) (record_of form) }
         requires above { AllChildren (Above self.old.nodes (node_place (record_of form))) (record_of form) }
@@ -123,7 +135,7 @@ impl Interner {
         self.table.store(form)
     }
 
-    /// The node of a tree that is not constant.
+    /// Returns the node of a tree that is not constant.
     pub(crate) fn node_of(&self, tree: MarkerTree) -> &Node
         requires made { IsTree self.now.nodes tree }
         requires some { 0 < tree.place }
@@ -134,11 +146,11 @@ impl Interner {
     }
 }
 
-/// The tree that holds where both hold, which isn't counted. Refusal and cost are those of
+/// Returns the tree that holds where both hold. Counts nothing; errors and cost are those of
 /// `MarkerTree::and`.
 ///
-/// It is lent to the crates that make trees of texts and of requirements. `pep508_rs` doesn't pass it on, and
-/// whoever promises a number of conjunctions doesn't call it.
+/// It is for the crates that make trees of texts and of requirements. `pep508_rs` doesn't re-export it, and
+/// a function that promises a number of conjunctions must not call it.
 pub fn uncounted_conjunction(
     alloc: Global,
     interner: &mut Interner,

@@ -1,4 +1,7 @@
 //! Trees of one variable.
+//!
+//! Trees of one variable are made from truths: branches of truths become branches of constant trees, and
+//! the node is stored as any other, so that all nodes are made in one place.
 
 ghost use Rattle.std.specs.Prelude.{◌≡◌, IfOk, map};
 ghost use Rattle.version_ranges.specs.Turns.{Rising};
@@ -22,14 +25,14 @@ use pep508_marker::MarkerValueString;
 use std::alloc::{AllocError, Global};
 use version_ranges::{Boundary, Ranges};
 
-/// The tree that always holds, or never does.
+/// Returns the tree that always holds, or the one that never does.
 fn constant(truth: bool) -> MarkerTree
     ensures { result ≡ constant truth }
 {
     MarkerTree::at_place(0, !truth)
 }
 
-/// Branches with the constant trees of truths.
+/// Returns the branches with constant trees in place of truths.
 fn constant_branches<T: Drop>(
     alloc: Global,
     later: Vec<Branch<T, bool>>,
@@ -46,7 +49,7 @@ fn constant_branches<T: Drop>(
     Ok(branches)
 }
 
-/// The form with the constant trees of truths.
+/// Returns the form with constant trees in place of truths.
 pub(crate) fn with_constants(
     alloc: Global,
     form: Form<bool>,
@@ -69,10 +72,10 @@ pub(crate) fn with_constants(
 }
 
 impl Interner {
-    /// The tree that holds where a key's version stands in a set. The only refusal is want of memory, and
-    /// earlier trees mean what they meant, refused or not. Counts nothing.
+    /// Returns the tree that holds where a key's version is in a set. The only error is lack of memory, and
+    /// earlier trees keep their meaning, also after an error. Counts nothing.
     ///
-    /// Copies each boundary of the set, at the shortest spelling of its version.
+    /// Copies each endpoint of the set, at the shortest spelling of its version.
     pub fn versions_tree(
         &mut self,
         alloc: Global,
@@ -90,8 +93,9 @@ impl Interner {
         self.leaf(alloc, Form::Versions(key, starts_held, later))
     }
 
-    /// The tree that holds where a key's text stands in the set that holds what lies below all boundaries, or
-    /// does not, and turns at each of them. Refusal, cost and count are those of `versions_tree`.
+    /// Returns the tree that holds where a key's text is in the set that contains what is below all
+    /// endpoints where `starts_held`, and at each of whose endpoints membership flips. Errors, cost and
+    /// count are those of `versions_tree`.
     pub fn texts_tree(
         &mut self,
         alloc: Global,
@@ -110,7 +114,7 @@ impl Interner {
         self.leaf(alloc, Form::Texts(key, starts_held, later))
     }
 
-    /// The tree that holds where a flag is set. Refusal and count are those of `versions_tree`.
+    /// Returns the tree that holds where a flag is set. Errors and count are those of `versions_tree`.
     pub fn flag_tree(&mut self, alloc: Global, flag: Flag) -> Result<MarkerTree, AllocError>
         ensures made { IfOk result (λ tree. IsTree self.new.nodes tree) }
         ensures truth { IfOk result (λ tree. (v : Valuation) → holds self.new.nodes tree v ≡ v.flag flag) }

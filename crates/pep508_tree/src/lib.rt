@@ -1,8 +1,9 @@
-//! Marker trees of Python packages (PEP 508, "Environment Markers"), and how they are combined. Contracts see
-//! a `MarkerTree` as a `Tree`, the place of its diagram in an `Interner` and whether the diagram's leaves are
-//! turned, so that a negation takes no memory; and an `Interner` as the nodes of its diagrams, in the order
-//! in which they were made, with the number of its conjunctions.
 #![tactic(auto)]
+//! Marker trees of Python packages (PEP 508, "Environment Markers"), and how they are combined.
+//!
+//! The model of a `MarkerTree` in contracts is a `Tree`: the place of its diagram in an `Interner` and
+//! whether the diagram's leaves are negated, so that a negation takes no memory. That of an `Interner` is
+//! the nodes of its diagrams, in the order in which they were made, with the number of its conjunctions.
 
 mod algebra;
 mod interner;

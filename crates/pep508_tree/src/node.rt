@@ -1,4 +1,4 @@
-//! What marker trees are made of.
+//! The nodes of marker trees.
 
 ghost use Rattle.std.specs.Prelude.{◌≡◌, [], ◌∷◌, map, Some, IfOk, refl};
 ghost use Rattle.std.specs.Cmp.{eq_by_cmp_equiv, partial_equiv_from_equiv, partial_order_from_agreeing_total};
@@ -27,11 +27,11 @@ use std::cmp::Ordering;
 use std::marker::Model;
 use version_ranges::Boundary;
 
-/// What stands in two trees for one answer.
+/// The children of two trees for one value of a variable.
 pub(crate) type Pair = (MarkerTree, MarkerTree);
 
-/// What is asked of one variable, and what stands for each answer: between a key's boundaries, the first
-/// below them all, or for either truth of a flag.
+/// A variable, and the child for each of its values: between a key's endpoints, the first below them all,
+/// or for either truth of a flag.
 #[derive(Drop)]
 pub(crate) enum Form<C> {
     Versions(VersionVariable, C, Vec<Branch<Version, C>>),
@@ -54,7 +54,7 @@ fn children_of<T>(
     Ok(pairs)
 }
 
-/// Branches between the same boundaries with other trees. Neighbours that are one tree are joined.
+/// Returns branches between the same endpoints with other trees. Equal neighbours are joined.
 fn joined<T: Drop>(
     alloc: Global,
     first: MarkerTree,
@@ -81,7 +81,7 @@ fn joined<T: Drop>(
     Ok(branches)
 }
 
-/// The first of trees, and the others.
+/// Returns the first of trees, and the others.
 fn first_and_others(trees: &[MarkerTree]) -> (MarkerTree, &[MarkerTree])
     ensures first { result.0 ≡ head trees.now }
     ensures others { result.1.now ≡ tail trees.now }
@@ -93,7 +93,7 @@ fn first_and_others(trees: &[MarkerTree]) -> (MarkerTree, &[MarkerTree])
 }
 
 impl Form<Pair> {
-    /// The children, in turn.
+    /// Returns the children, in order.
     pub fn children(&self, alloc: Global) -> Result<Vec<Pair>, AllocError>
         ensures { IfOk result (λ pairs. pairs.items ≡ children (record_of self.now)) }
     {
@@ -104,7 +104,7 @@ impl Form<Pair> {
         }
     }
 
-    /// The form with a tree for each of its children, in turn.
+    /// Returns the form with the given trees in place of its children, in order.
     pub fn joined(self, alloc: Global, trees: &[MarkerTree]) -> Result<Form<MarkerTree>, AllocError>
         ensures { IfOk result (λ form. record_of form ≡ node_joined (record_of self) trees.now) }
     {
@@ -171,7 +171,7 @@ fn place_number(tree: MarkerTree) -> u64
     tree.place() as u64
 }
 
-/// The number of what stands from the first boundary on.
+/// Returns a number for the first endpoint and the child from it on.
 fn versions_tag(later: &[Branch<Version, MarkerTree>]) -> u64
     ensures { result ≡ branches_tag version_tag later.now }
 {
@@ -184,7 +184,7 @@ fn versions_tag(later: &[Branch<Version, MarkerTree>]) -> u64
     }
 }
 
-/// The same between texts.
+/// Returns a number for the first endpoint between texts and the child from it on.
 fn texts_tag(later: &[Branch<MarkerText, MarkerTree>]) -> u64
     ensures { result ≡ branches_tag text_tag later.now }
 {
@@ -201,13 +201,14 @@ fn texts_tag(later: &[Branch<MarkerText, MarkerTree>]) -> u64
 }
 
 impl Node {
+    /// Returns the node of a form.
     pub fn new(form: Form<MarkerTree>) -> Node
         ensures { result ≡ record_of form }
     {
         Node { form }
     }
 
-    /// The place of the variable among the kinds of variables and their keys.
+    /// Returns the rank of the variable among the kinds of variables and their keys.
     fn rank(&self) -> u8
         ensures { result ≡ node_rank self.now }
     {
@@ -219,7 +220,7 @@ impl Node {
         }
     }
 
-    /// The text that the variable is about, if it is a flag.
+    /// Returns the text that the variable is about, if it is a flag.
     fn text(&self) -> &str
         ensures { result.now ≡ node_text self.now }
     {
@@ -229,7 +230,7 @@ impl Node {
         }
     }
 
-    /// The node for callers, with each child negated where the flag is set.
+    /// Returns the borrowed node for callers, with each child negated where `negated`.
     pub fn lent(&self, negated: bool) -> TreeNode<'_>
         ensures { shown result ≡ Some (signed negated self.now) }
     {
@@ -258,8 +259,8 @@ impl Node {
         }
     }
 
-    /// A number by which nodes are told apart: that of the variable, of the children, and of what stands from
-    /// the first boundary on.
+    /// Returns a hash of the node: of the variable, of the children, and of the first endpoint with the
+    /// child from it on.
     pub fn tag(&self) -> u64
         ensures { result ≡ node_tag self.now }
     {
@@ -272,7 +273,7 @@ impl Node {
         )
     }
 
-    /// By the variables alone.
+    /// Compares the variables alone.
     pub fn cmp_variable(&self, other: &Node) -> Ordering
         ensures { result ≡ text_cmp (node_place self.now) (node_place other.now) }
     {
@@ -319,7 +320,8 @@ impl Node {
         }
     }
 
-    /// The pairs of what stands here and in a node of the same variable, of which the children are given.
+    /// Returns the pairs of this node's children and of those of a node of the same variable, which are
+    /// given.
     fn paired(
         &self,
         alloc: Global,
@@ -349,7 +351,7 @@ impl Node {
         }
     }
 
-    /// The pairs of each child and a tree that does not ask for the variable.
+    /// Returns the pairs of each child and a tree that does not test the variable.
     pub fn with_tree(&self, alloc: Global, tree: MarkerTree) -> Result<Form<Pair>, AllocError>
         requires { IsRising self.now }
         ensures { IfOk result (λ pairs.
@@ -358,7 +360,7 @@ impl Node {
         self.paired(alloc, tree, &[], &[], tree)
     }
 
-    /// The pairs of what stands here and in a node of the same variable.
+    /// Returns the pairs of this node's children and of those of a node of the same variable.
     pub fn with_node(&self, alloc: Global, other: &Node) -> Result<Form<Pair>, AllocError>
         requires same { text_cmp (node_place self.now) (node_place other.now) ≡ Equal }
         requires rising { IsRising self.now }

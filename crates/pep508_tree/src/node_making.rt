@@ -1,4 +1,9 @@
-//! Trees by what is asked first and what stands for each answer.
+//! Making a tree of a variable and its children.
+//!
+//! These calls require that the given trees test later variables only. A crate above rebuilds a tree with
+//! them: it copies a node, changes what is in it and merges neighbours. The memo of such a walk is by the
+//! places of plain trees, so that a tree and its negation are one entry; that is why `place` and
+//! `is_negated` are public.
 
 ghost use Rattle.std.specs.Prelude.{◌≡◌, [], ◌∷◌, IfOk};
 ghost use Rattle.pep440_version.specs.Order.{version_cmp};
@@ -17,8 +22,8 @@ use pep508_marker::MarkerValueString;
 use std::alloc::AllocError;
 
 impl Interner {
-    /// The tree that asks a key's version first, where rising boundaries have different trees on both sides;
-    /// these ask for later variables. The only refusal is want of memory. Counts nothing.
+    /// Returns the tree that tests a key's version first, where rising endpoints have different trees on
+    /// both sides; these trees test later variables. The only error is lack of memory. Counts nothing.
     ///
     /// Looks the node up among all others, and keeps it where it is new.
     pub fn versions_node(
@@ -38,7 +43,7 @@ impl Interner {
         self.stored(Form::Versions(key, first, later))
     }
 
-    /// The same of a key's text.
+    /// Returns the tree that tests a key's text first; for the rest see `versions_node`.
     pub fn texts_node(
         &mut self,
         key: MarkerValueString,
@@ -56,7 +61,8 @@ impl Interner {
         self.stored(Form::Texts(key, first, later))
     }
 
-    /// The same of a flag, with the trees where it is set and where it is not.
+    /// Returns the tree that tests a flag first, with the trees where it is set and where it is not; for
+    /// the rest see `versions_node`.
     pub fn flag_node(
         &mut self,
         flag: Flag,

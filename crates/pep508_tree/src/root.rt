@@ -1,4 +1,8 @@
-//! What stands at the root of a marker tree.
+//! The root of a marker tree.
+//!
+//! A node is borrowed as it is stored, with the tree's sign next to it: what stands between boundaries is a
+//! slice that no call copies, so `TreeNode` has the sign as a field and applies it only to the two children
+//! of a flag.
 
 ghost use Rattle.std.specs.Prelude.{◌≡◌, IfSome};
 ghost use Rattle.pep508_tree.specs.Meaning.{IsTree};
@@ -11,8 +15,8 @@ use pep508_diagram::{Branch, Flag, MarkerText, VersionVariable};
 use pep508_marker::MarkerValueString;
 use std::alloc::AllocError;
 
-/// The children of a node between the boundaries of a key, the first below them all. Where the flag is set,
-/// what stands in the tree is the negation of each.
+/// The children of a node between the endpoints of a key, the first below them all. Where `negated`, the
+/// tree's children are the negations of these.
 pub struct Children<'a, T> {
     pub first: MarkerTree,
     pub later: &'a [Branch<T, MarkerTree>],
@@ -35,21 +39,21 @@ impl<'a, T> Clone for Children<'a, T> {
 
 impl<'a, T> Copy for Children<'a, T> {}
 
-/// What is asked first in a tree, and what stands for each answer.
+/// The variable that a tree tests first, and the child for each of its values.
 #[derive(Clone, Copy)]
 pub enum TreeNode<'a> {
     /// The tree always holds, or never.
     Constant(bool),
-    /// Between versions of a key.
+    /// The children between versions of a key.
     Versions(VersionVariable, Children<'a, Version>),
-    /// Between texts of a key.
+    /// The children between texts of a key.
     Texts(MarkerValueString, Children<'a, MarkerText>),
-    /// Where a flag is set, and where it is not. The tree's sign is put on both.
+    /// The children where a flag is set, and where it is not. The tree's negation is applied to both.
     Flagged(&'a Flag, MarkerTree, MarkerTree),
 }
 
 impl MarkerTree {
-    /// What stands at the tree's root, lent by the interner. Takes no memory and constant time.
+    /// Returns the root of the tree, borrowed from the interner. Takes no memory and constant time.
     pub fn node<'a>(self, interner: &'a Interner) -> TreeNode<'a>
         requires { IsTree interner.now.nodes self }
         ensures shows { shown result ≡ root_of interner.now.nodes self }

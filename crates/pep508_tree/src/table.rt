@@ -1,4 +1,16 @@
-//! What keeps the nodes of marker trees, each once.
+//! The table of the nodes of marker trees, each kept once.
+//!
+//! A node has two owners (`Rc`): the list of nodes, in the order in which they were made, and the ordered
+//! map that finds it. So it is stored once, and a look-up copies nothing; a new node costs one block for
+//! itself, one that is dropped again where the node was there already, and an entry of the map. Neither the
+//! map nor the memory of conjunctions hashes, so no input can make their entries collide, and comparing two
+//! nodes stops at the first difference. Children come first in that order: they are numbers and tell most
+//! nodes apart.
+//!
+//! A node is stored whole or not at all: room in the list first, then the map's entry, then the list, which
+//! cannot fail any more. Bounds are put into their shortest spelling here (`store`), whoever makes the
+//! node, so that no caller has to promise it. That takes one more list for each node of versions and copies
+//! no version.
 
 ghost use Rattle.std.specs.Prelude.{◌≡◌, ◌⊎◌, ◌-◌, ◌<◌, false, [], length, map, IfOk, IsTrue, ◌↔◌, refl};
 ghost use Rattle.std.specs.Cmp.{eq_by_cmp_equiv, partial_equiv_from_equiv, partial_order_from_agreeing_total};
@@ -22,7 +34,7 @@ use std::collections::BTreeMap;
 use std::marker::Model;
 use std::rc::Rc;
 
-/// The nodes in the order in which they were made, and where each stands. A node and its key are one value
+/// The nodes in the order in which they were made, and the place of each. A node and its key are one value
 /// with two owners.
 #[derive(Drop)]
 pub(crate) struct NodeTable {
@@ -31,7 +43,7 @@ pub(crate) struct NodeTable {
     alloc: Global,
 }
 
-/// A node with its number, which comes first in the order, so that two nodes are mostly told apart by it.
+/// A node with its hash, which comes first in the order, so that mostly it alone decides.
 #[derive(Drop)]
 struct Tagged {
     tag: u64,
@@ -115,7 +127,7 @@ impl Model for NodeTable {
         AreSound (nodes_of table.nodes.items) × StandAt (nodes_of table.nodes.items) table.places };
 }
 
-/// The children of a list of branches, negated.
+/// Negates the children of a list of branches.
 fn turn<T>(later: &mut [Branch<T, MarkerTree>])
     ensures { later.new ≡ map turned_branch later.old }
 {
@@ -124,7 +136,7 @@ fn turn<T>(later: &mut [Branch<T, MarkerTree>])
     }
 }
 
-/// The form, with each child negated where the flag is set.
+/// Returns the form, with each child negated where `negated`.
 fn signed(form: Form<MarkerTree>, negated: bool) -> Form<MarkerTree>
     ensures { record_of result ≡ signed negated (record_of form) }
 {
@@ -144,7 +156,7 @@ fn signed(form: Form<MarkerTree>, negated: bool) -> Form<MarkerTree>
     }
 }
 
-/// The form, with each boundary of versions at its shortest spelling.
+/// Returns the form, with each endpoint of versions at its shortest spelling.
 fn shortened(alloc: Global, form: Form<MarkerTree>) -> Result<Form<MarkerTree>, AllocError>
     ensures { IfOk result (λ short. record_of short ≡ short_node (record_of form)) }
 {
@@ -157,7 +169,7 @@ fn shortened(alloc: Global, form: Form<MarkerTree>) -> Result<Form<MarkerTree>, 
     }
 }
 
-/// The first child, or the set one of a flag.
+/// Returns the first child, or that of a flag that is set.
 fn first_of(form: &Form<MarkerTree>) -> MarkerTree
     ensures { result ≡ first_child (record_of form.now) }
 {
@@ -168,7 +180,7 @@ fn first_of(form: &Form<MarkerTree>) -> MarkerTree
     }
 }
 
-/// Whether the same stands for each answer.
+/// Returns whether all children are the same.
 fn is_alone(form: &Form<MarkerTree>) -> bool
     ensures { IsTrue result ↔ IsAlone (record_of form.now) }
 {
@@ -180,7 +192,7 @@ fn is_alone(form: &Form<MarkerTree>) -> bool
 }
 
 impl NodeTable {
-    /// A table without nodes. Takes no memory.
+    /// Returns a table without nodes. Takes no memory.
     pub fn new(alloc: Global) -> NodeTable
         ensures { result ≡ [] }
     {
@@ -191,18 +203,19 @@ impl NodeTable {
         }
     }
 
+    /// Returns the allocator of the nodes.
     pub fn allocator(&self) -> Global {
         self.alloc
     }
 
-    /// What the nodes keep, for callers that see their records alone. Does nothing.
+    /// Shows that the nodes are sound, for callers that see their records alone. Does nothing.
     pub fn are_sound(&self)
         ensures { AreSound self.now }
     {
         let _ = &self.nodes;
     }
 
-    /// The node of a tree that is not constant.
+    /// Returns the node of a tree that is not constant.
     pub fn node_of(&self, tree: MarkerTree) -> &Node
         requires made { IsTree self.now tree }
         requires some { 0 < tree.place }
@@ -212,7 +225,8 @@ impl NodeTable {
         &self.nodes[tree.place() - 1]
     }
 
-    /// The two trees, first the one whose first variable does not come after that of the other.
+    /// Returns the two trees in the order of their first variables: the first tree's does not come after
+    /// the second's.
     pub fn in_order(&self, a: MarkerTree, b: MarkerTree) -> (MarkerTree, MarkerTree)
         requires a { IsTree self.now a }
         requires b { IsTree self.now b }
@@ -231,8 +245,9 @@ impl NodeTable {
         }
     }
 
-    /// The pairs of what stands in two trees for each answer about the variable that comes first in them,
-    /// without the trees' signs. The first tree's variable does not come after that of the second.
+    /// Returns the pairs of the children of two trees for each value of the variable that comes first in
+    /// them, without the trees' negations. The first tree's variable does not come after that of the
+    /// second.
     pub fn split(&self, a: MarkerTree, b: MarkerTree) -> Result<Form<Pair>, AllocError>
         requires a { IsTree self.now a }
         requires b { IsTree self.now b }
@@ -250,7 +265,7 @@ impl NodeTable {
         }
     }
 
-    /// The place of a node that stands here, or is put here now. A refusal stores nothing.
+    /// Returns the place of a node, which is added unless it is there already. An error stores nothing.
     fn place_of(&mut self, form: Form<MarkerTree>) -> Result<usize, AllocError>
         requires { IsSoundNode self.old (length self.old) (record_of form) }
         ensures found { IfOk result (λ place. IsPlaced self.new (record_of form) place) }
@@ -271,8 +286,8 @@ impl NodeTable {
         }
     }
 
-    /// The tree of a form, of which each child asks for later variables only: its only child, where it has
-    /// one, and else the tree of its node, with versions in their shortest spelling.
+    /// Returns the tree of a form whose children test later variables only: its only child, where all are
+    /// the same, and else the tree of its node, with versions in their shortest spelling.
     pub fn store(&mut self, form: Form<MarkerTree>) -> Result<MarkerTree, AllocError>
         requires made { AllChildren (IsTree self.old) (record_of form) }
         requires above { AllChildren (Above self.old (node_place (record_of form))) (record_of form) }

@@ -1,4 +1,7 @@
-//! What names a marker tree.
+//! Marker trees, by their places in an interner.
+//!
+//! A tree has a model and its constants have none, since a clause cannot name a constant of such a type:
+//! `pep508_tree_laws::constants` says what they are.
 
 ghost use Rattle.std.specs.Prelude.{◌≡◌, ◌↔◌, IsTrue};
 ghost use Rattle.pep508_tree.specs.Tree.{Tree, always, never, negation};
@@ -7,10 +10,10 @@ ghost use Rattle.pep508_tree.specs.Nodes.{turned, tree_cmp};
 use std::cmp::Ordering;
 use std::marker::Model;
 
-/// A marker tree of an interner: for which environments and extras a requirement is meant (PEP 508,
+/// A marker tree of an interner: for which environments and extras a requirement applies (PEP 508,
 /// "Environment Markers").
 ///
-/// Two trees of one interner are equal exactly where they are named alike.
+/// Two trees of one interner are equal exactly where their places and negations are.
 #[derive(Clone, Copy, Debug, PartialEq, Eq, Hash)]
 pub struct MarkerTree {
     place: usize,
@@ -40,7 +43,7 @@ impl MarkerTree {
         negated: true,
     };
 
-    /// The tree that holds exactly where this one does not. Takes no memory and no interner.
+    /// Returns the tree that holds exactly where this one does not. Takes no memory and no interner.
     pub fn negate(self) -> MarkerTree
         ensures { result ≡ negation self }
     {
@@ -50,28 +53,28 @@ impl MarkerTree {
         }
     }
 
-    /// The tree at a place of an interner.
+    /// Returns the tree at a place of an interner.
     pub(crate) fn at_place(place: usize, negated: bool) -> MarkerTree
         ensures { result ≡ record { place = place; negated = negated } }
     {
         MarkerTree { place, negated }
     }
 
-    /// The place of the tree's diagram in its interner, which is that of its negation too.
+    /// Returns the place of the tree's diagram in its interner, which is that of its negation too.
     pub fn place(self) -> usize
         ensures { result ≡ self.place }
     {
         self.place
     }
 
-    /// Whether the leaves of that diagram are turned.
+    /// Returns whether the leaves of that diagram are negated.
     pub fn is_negated(self) -> bool
         ensures { result ≡ self.negated }
     {
         self.negated
     }
 
-    /// The tree, negated where the flag is set.
+    /// Returns the tree, negated where `turns`.
     pub fn turned(self, turns: bool) -> MarkerTree
         ensures { result ≡ turned turns self }
     {
@@ -81,7 +84,7 @@ impl MarkerTree {
         }
     }
 
-    /// The order in which trees were made, a tree before its negation. It is no order of meanings.
+    /// Compares trees by when they were made, a tree before its negation. It is not an order of meanings.
     pub fn cmp_places(self, other: MarkerTree) -> Ordering
         ensures { result ≡ tree_cmp self other }
     {
@@ -90,14 +93,14 @@ impl MarkerTree {
             .then(self.negated.cmp(&other.negated))
     }
 
-    /// Whether this is the tree that always holds.
+    /// Returns whether this is the tree that always holds.
     pub fn is_true(self) -> bool
         ensures { IsTrue result ↔ (self ≡ always) }
     {
         self.place == 0 && !self.negated
     }
 
-    /// Whether this is the tree that never holds.
+    /// Returns whether this is the tree that never holds.
     pub fn is_false(self) -> bool
         ensures { IsTrue result ↔ (self ≡ never) }
     {

@@ -1,4 +1,4 @@
-//! Pairs of trees, in an order in which what stands in a pair comes before it.
+//! Pairs of trees, in an order in which the pairs of a pair's children come before it.
 
 ghost use Rattle.std.specs.Prelude.{◌≡◌, ◌+◌, refl};
 ghost use Rattle.std.specs.Cmp.{eq_by_cmp_equiv, partial_equiv_from_equiv, partial_order_from_agreeing_total};
@@ -16,13 +16,14 @@ pub struct TreePair {
 }
 
 impl TreePair {
+    /// Returns the pair of two trees.
     pub fn new(first: MarkerTree, second: MarkerTree) -> TreePair
         ensures { result ≡ record { first = first; second = second } }
     {
         TreePair { first, second }
     }
 
-    /// The sum of the two places.
+    /// Returns the sum of the two places.
     fn places(&self) -> u128
         ensures { result ≡ places self.now }
     {

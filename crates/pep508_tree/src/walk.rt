@@ -1,4 +1,17 @@
 //! Conjunctions of marker trees, by a walk over pairs of trees.
+//!
+//! A conjunction walks over a list of the pairs that wait for others, so it uses no stack. A waiting pair
+//! keeps what is in its two trees and the conjunctions of the first of these pairs; where the next is
+//! unknown it is pushed, and where none is left the node is made and remembered, so each pair is split
+//! once. The walk ends because of the number of unknown pairs and then the sum of the two places of the
+//! last that waits (`proofs/Walking.antt`): the first falls with each node that is made, the second with
+//! each pair that is pushed. The conjunctions of a node's children are a list of pairs that is joined with
+//! the boundaries afterwards, so the walk knows neither versions nor texts; that costs two short lists a
+//! pair of nodes.
+//!
+//! Two trees are ordered by their first variables, and those of one variable by which was made first,
+//! before their conjunction is looked up, so that a pair and its reverse are one entry. The entry's key has
+//! both signs.
 
 ghost use Rattle.std.specs.Prelude.{◌≡◌, ◌⊎◌, ◌+◌, ◌<◌, ◌≤◌, false, List, length, take, Some};
 ghost use Rattle.std.specs.Prelude.{MatchOption, IfOk, IfErr};
@@ -19,7 +32,7 @@ use crate::{MarkerTree, TreePair};
 use std::alloc::{AllocError, Global};
 use std::collections::BTreeMap;
 
-/// The conjunction of two trees of which one is constant, or that are one tree or its negation.
+/// Returns the conjunction of two trees where one is constant, or they are one tree or its negation.
 fn plain_conjunction(a: MarkerTree, b: MarkerTree) -> Option<MarkerTree>
     ensures { MatchOption result ((0 < a.place) × (0 < b.place)) (λ tree.
         (nodes : List NodeRecord) → IsTree nodes a → IsTree nodes b → Conjunction nodes nodes a b tree) }
@@ -40,8 +53,8 @@ fn plain_conjunction(a: MarkerTree, b: MarkerTree) -> Option<MarkerTree>
     })
 }
 
-/// The two trees, first the one whose first variable does not come after that of the other. Of one variable
-/// it is the one that was made first, so that a pair and its reverse are one.
+/// Returns the two trees in the order of their first variables; of one variable the tree comes first that
+/// was made first, so that a pair and its reverse are one.
 fn in_order(table: &NodeTable, a: MarkerTree, b: MarkerTree) -> (MarkerTree, MarkerTree)
     requires a { IsTree table.now a }
     requires b { IsTree table.now b }
@@ -58,7 +71,8 @@ fn in_order(table: &NodeTable, a: MarkerTree, b: MarkerTree) -> (MarkerTree, Mar
     }
 }
 
-/// The conjunction of two trees, where it is plain or known, or else the pair as which it is to be known.
+/// Returns the conjunction of two trees, where it is plain or known, or else the pair by which it is to be
+/// remembered.
 fn look_up(
     table: &NodeTable,
     known: &BTreeMap<TreePair, MarkerTree>,
@@ -82,7 +96,8 @@ fn look_up(
     }
 }
 
-/// A conjunction that waits for those of the pairs that stand in its two trees. The first of these are there.
+/// A conjunction that waits for those of the pairs of its two trees' children. The first of these are
+/// there.
 #[derive(Drop)]
 pub(crate) struct Pending {
     asked: TreePair,
@@ -91,7 +106,7 @@ pub(crate) struct Pending {
     trees: Vec<MarkerTree>,
 }
 
-/// A conjunction that waits for all pairs that stand in its trees.
+/// Returns a conjunction that waits for all pairs of its trees' children.
 fn begun(alloc: Global, table: &NodeTable, asked: TreePair) -> Result<Pending, AllocError>
     requires { AreInOrder table.now asked }
     ensures asked { IfOk result (λ pending. pending.asked ≡ asked) }
@@ -107,8 +122,8 @@ fn begun(alloc: Global, table: &NodeTable, asked: TreePair) -> Result<Pending, A
     })
 }
 
-/// Adds the conjunctions of further pairs that stand in two trees to those that are there, up to the first
-/// pair of which none is known.
+/// Appends the conjunctions of further pairs of children to those that are there, up to the first pair
+/// whose conjunction is unknown, and returns that pair.
 fn next_unknown(
     table: &NodeTable,
     known: &BTreeMap<TreePair, MarkerTree>,
@@ -140,7 +155,7 @@ fn next_unknown(
     Ok(None)
 }
 
-/// The conjunction for which all conjunctions are there that it waited for. It is known from now on.
+/// Returns the conjunction once all conjunctions are there that it waited for, and remembers it.
 fn finished(
     table: &mut NodeTable,
     known: &mut BTreeMap<TreePair, MarkerTree>,
@@ -160,8 +175,8 @@ fn finished(
     Ok(tree)
 }
 
-/// The conjunction of a pair that is not known. What waits stands on a list, each behind one in whose trees
-/// it stands, so that a long path takes memory and no stack.
+/// Returns the conjunction of a pair that is not known. The waiting conjunctions are kept in a list, each
+/// after one of whose children it is, so that a long path takes memory and no stack.
 fn walked(
     alloc: Global,
     table: &mut NodeTable,
@@ -203,8 +218,8 @@ fn walked(
     Ok(last)
 }
 
-/// The conjunction of two trees: no more steps than the product of the numbers of their nodes, each as long
-/// as the two nodes' boundaries. No recursion, however deep the trees are.
+/// Returns the conjunction of two trees, in no more steps than the product of the numbers of their nodes,
+/// each as long as the two nodes' endpoints. No recursion, however deep the trees are.
 pub(crate) fn conjunction(
     alloc: Global,
     table: &mut NodeTable,

@@ -1,5 +1,5 @@
-//! Laws of marker trees (PEP 508, "Environment Markers"), over the definitions that the contracts of
-//! `pep508_tree` cite. The functions do nothing: each one's contract is its law.
+//! Laws of marker trees (PEP 508, "Environment Markers"), over the definitions in the contracts of
+//! `pep508_tree`. The functions do nothing: each one's contract is its law.
 #![tactic(auto)]
 
 ghost use Rattle.std.specs.Prelude.{◌≡◌, ◌≢◌, ◌↔◌, IsTrue, true, false, not, List};
@@ -16,13 +16,13 @@ pub fn negation_turns_back()
     ensures twice { (tree : Tree) → negation (negation tree) ≡ tree }
 {}
 
-/// Trees of one interner are equal exactly where they are named alike.
+/// Trees of one interner are equal exactly where their places and negations are.
 #[tactic(auto, using(pep508_tree::proofs::Same::same_trees))]
 pub fn equal_is_same()
     ensures { (a b : Tree) → IsTrue (⟦<MarkerTree as PartialEq>⟧.eq a b) ↔ (a ≡ b) }
 {}
 
-/// The constants, as their names say.
+/// Returns the tree that always holds and the one that never does, by their names.
 pub fn constants() -> (MarkerTree, MarkerTree)
     ensures truth { result.0 ≡ always }
     ensures falsehood { result.1 ≡ never }
@@ -47,7 +47,7 @@ pub fn equal_means_same(interner: &Interner)
     interner.are_sound()
 }
 
-/// Only the tree that is named `TRUE` always holds, and only the one that is named `FALSE` never does.
+/// Only the tree `TRUE` always holds, and only the tree `FALSE` never does.
 pub fn constants_are_named(interner: &Interner)
     ensures truth { (tree : Tree) → IsTree interner.now.nodes tree →
         (tree ≡ always) ↔ ((v : Valuation) → holds interner.now.nodes tree v ≡ true) }
@@ -57,7 +57,7 @@ pub fn constants_are_named(interner: &Interner)
     interner.are_sound()
 }
 
-/// A tree other than the one that is named `FALSE` holds under some valuation.
+/// A tree other than `FALSE` holds under some valuation.
 pub fn a_tree_holds_somewhere(interner: &Interner)
     ensures { (tree : Tree) → IsTree interner.now.nodes tree → tree ≢ never →
         (v : Valuation) × (holds interner.now.nodes tree v ≡ true) }

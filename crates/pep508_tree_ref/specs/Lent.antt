@@ -1,4 +1,4 @@
--- What contracts see of a tree with its interner, which is lent.
+-- The model in contracts of a borrowed tree with its interner.
 use Rattle.std.specs.Ordering.{on}
 use Rattle.std.specs.Cmp.{IsTotalOrder, on_total}
 use Rattle.std.specs.declared.cmp.Ordering.{Ordering}

@@ -1,4 +1,4 @@
--- Pairs of trees that show the same, each in its own interner.
+-- Pairs of trees with the same diagram, each in its own interner.
 use Rattle.std.specs.Prelude.{◌≡◌, ℕ, Bool, List}
 use Rattle.std.specs.declared.cmp.Ordering.TheVariants.{Equal}
 use Rattle.pep508_tree.specs.Meaning.{NodeRecord, diagram_of}

@@ -12,7 +12,7 @@ pub record TreeIn : Type 0 where
   pub nodes : List NodeRecord
   pub tree : Tree
 
--- what it means
+-- the diagram of the tree
 abbrev pub diagram_in : TreeIn → Diagram Question
 diagram_in t = diagram_of t.nodes t.tree
 

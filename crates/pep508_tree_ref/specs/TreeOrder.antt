@@ -1,6 +1,6 @@
 -- The order of diagrams of markers: by kind, those that always hold and those that never do before all
--- others; then by the first variable; then edge by edge, each by where it ends and then by what it leads
--- to. No place in an interner is in it.
+-- others; then by the first variable; then edge by edge, each by its end and then by its child. It doesn't
+-- depend on places in an interner.
 use Rattle.std.specs.Prelude.{Bool, true, not}
 use Rattle.std.specs.declared.cmp.Ordering.{Ordering}
 use Rattle.std.specs.declared.cmp.Ordering.TheVariants.{Less, Greater}
@@ -8,13 +8,14 @@ use Rattle.std.specs.Ordering.{bool_cmp, ordering_then}
 use Rattle.pep508_diagram.specs.Diagram.{Diagram, Leaf, Test}
 use Rattle.pep508_diagram.specs.Question.{Question, question_cmp, shares_variable}
 
--- the diagram asks no more of the question's variable, so that it is what the variable's last edge leads to
+-- the diagram has no more questions of the question's variable, so that it is the child of the variable's
+-- last edge
 abbrev pub is_last : Question → Diagram Question → Bool
 is_last q (Leaf b) = true
 is_last q (Test r low high) = not (shares_variable q r)
 
--- A question stands at the end of an edge, and what follows a yes is what the edge leads to; what follows a
--- no are the edges behind it. An edge that ends comes before one without an end.
+-- A question is the end of an edge, and the diagram for yes is the edge's child; the diagram for no is the
+-- edges after it. An edge that ends comes before one without an end.
 abbrev pub diagram_cmp : Diagram Question → Diagram Question → Ordering
 diagram_cmp (Leaf b) (Leaf c) = bool_cmp (not b) (not c)
 diagram_cmp (Leaf b) (Test r low high) = Less

@@ -38,7 +38,7 @@ then_then Less p q = refl
 then_then Equal p q = refl
 then_then Greater p q = refl
 
--- what stands behind the tokens of diagrams is looked at where the diagrams tie
+-- what follows the tokens of diagrams is looked at where the diagrams are equal
 by_tokens : (d e : Diagram Question) (xs ys : List Token) →
     slice_cmp token_cmp (tokens d ++ xs) (tokens e ++ ys)
     ≡ ordering_then (diagram_cmp d e) (slice_cmp token_cmp xs ys)

@@ -1,4 +1,4 @@
--- What a tree with its interner prints.
+-- The print of a tree with its interner.
 use Rattle.std.specs.Prelude.{ℕ, List, codes, unwrap_or}
 use Rattle.pep508_diagram.specs.Diagram.{Diagram}
 use Rattle.pep508_diagram.specs.Question.{Question}

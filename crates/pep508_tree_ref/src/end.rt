@@ -1,4 +1,4 @@
-//! Where the edges of a node end.
+//! The ends of the edges of a node.
 
 ghost use Rattle.std.specs.Prelude.{◌≡◌, option_map, option_copied, option_to_list};
 ghost use Rattle.std.specs.List.{slice_get};
@@ -18,12 +18,12 @@ use pep508_tree::{Interner, MarkerTree, TreeNode};
 use std::cmp::Ordering;
 use version_ranges::Boundary;
 
-/// The question that ends an edge, lent.
+/// The question that ends an edge, borrowed.
 #[derive(Clone, Copy)]
 pub enum End<'a> {
-    /// The version lies below a boundary.
+    /// The version is below an endpoint.
     Version(VersionVariable, &'a Boundary<Version>),
-    /// The text lies below a boundary.
+    /// The text is below an endpoint.
     Text(MarkerValueString, &'a Boundary<MarkerText>),
     /// The flag is set.
     Flag(&'a Flag),
@@ -57,7 +57,7 @@ fn flag_text(flag: &Flag) -> &str
     }
 }
 
-/// The kind of the variable and its key.
+/// Returns the rank of the variable's kind and key.
 fn rank(end: End) -> u8
     ensures { result ≡ question_rank (question_of end.entry) }
 {
@@ -69,7 +69,7 @@ fn rank(end: End) -> u8
     }
 }
 
-/// The text that the variable is about.
+/// Returns the text that the variable is about.
 fn text<'a>(end: End<'a>) -> &'a str
     ensures { result.now ≡ question_text (question_of end.entry) }
 {
@@ -98,7 +98,7 @@ fn text_bound<'a>(end: End<'a>) -> Option<&'a Boundary<MarkerText>>
     }
 }
 
-/// The order of boundaries, none before each.
+/// Compares endpoints; `None` comes before each.
 fn cmp_bounds<T: Ord>(bound: Option<&Boundary<T>>, other: Option<&Boundary<T>>) -> Ordering
     ensures { result ≡ slice_cmp (boundary_cmp T.cmp)
         (option_to_list (option_copied bound.entry)) (option_to_list (option_copied other.entry)) }
@@ -111,7 +111,7 @@ fn cmp_bounds<T: Ord>(bound: Option<&Boundary<T>>, other: Option<&Boundary<T>>) 
     }
 }
 
-/// The order of questions.
+/// Compares questions.
 #[tactic(auto, using(crate::proofs::Edges::question_order))]
 fn cmp_questions(end: End, other: End) -> Ordering
     ensures { result ≡ question_cmp (question_of end.entry) (question_of other.entry) }
@@ -123,7 +123,7 @@ fn cmp_questions(end: End, other: End) -> Ordering
         .then(cmp_bounds(text_bound(end), text_bound(other)))
 }
 
-/// The order of ends: none comes last.
+/// Compares ends; `None` comes last.
 pub(crate) fn cmp_ends(end: Option<End>, other: Option<End>) -> Ordering
     ensures { result ≡ end_cmp (option_map question_of end.entry) (option_map question_of other.entry) }
 {
@@ -135,7 +135,7 @@ pub(crate) fn cmp_ends(end: Option<End>, other: Option<End>) -> Ordering
     }
 }
 
-/// The end of an edge at a tree's root, by the edge's place; the last edge has none.
+/// Returns the end of an edge at a tree's root, by the edge's place; the last edge has none.
 
 pub(crate) fn end_at<'a>(tree: MarkerTree, interner: &'a Interner, index: usize) -> Option<End<'a>>
     requires { IsTree interner.now.nodes tree }

@@ -1,4 +1,4 @@
-//! Pairs of trees that are known to show the same, so that none is walked twice.
+//! Pairs of trees that are known to have the same diagram, so that none is walked twice.
 
 ghost use Rattle.std.specs.Prelude.{◌≡◌, List, IsTrue};
 ghost use Rattle.std.specs.List.{AllByRecursion};
@@ -20,7 +20,7 @@ fn name(tree: MarkerTree) -> Name
     (tree.place(), tree.is_negated())
 }
 
-/// Whether two trees, of which the first is not constant, are known to show the same.
+/// Returns whether two trees, of which the first is not constant, are known to have the same diagram.
 pub(crate) fn is_known(known: &BTreeSet<(Name, Name)>, tree: MarkerTree, other: MarkerTree) -> bool
     ensures { IsTrue result → (nodes others : List NodeRecord) →
         AllByRecursion (AreTied nodes others) known.now.keys →
@@ -29,8 +29,8 @@ pub(crate) fn is_known(known: &BTreeSet<(Name, Name)>, tree: MarkerTree, other: 
     tree.place() > 0 && known.contains(&(name(tree), name(other)))
 }
 
-/// Keeps two trees of this order, where they show the same and are not constant. Where memory for them is
-/// refused, they are looked at again.
+/// Remembers two trees that compare as `order`, where they are equal and not constant. Where memory for
+/// that runs out, they are walked again.
 pub(crate) fn keep(
     known: &mut BTreeSet<(Name, Name)>,
     tree: MarkerTree,

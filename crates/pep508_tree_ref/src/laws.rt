@@ -1,4 +1,4 @@
-//! Laws over the definitions. The functions do nothing: each one's contract is its law.
+//! Laws of the order of trees. The functions do nothing: each one's contract is its law.
 
 ghost use Rattle.std.specs.Prelude.{◌≡◌, ◌↔◌, IsTrue};
 ghost use Rattle.std.specs.Cmp.{IsTotalOrder};
@@ -12,13 +12,13 @@ ghost use Rattle.pep508_tree_ref.specs.TreeText.{tree_text};
 
 use crate::MarkerTreeRef;
 
-/// The order of diagrams is total, and it is transitive.
+/// The order of diagrams is total and transitive.
 #[tactic(auto, using(crate::specs::TreeOrderLaws::diagrams_total))]
 pub fn the_order_is_total()
     ensures { IsTotalOrder diagram_cmp }
 {}
 
-/// Canonical diagrams tie exactly where they have one truth under every valuation.
+/// Canonical diagrams compare as equal exactly where they have one truth under every valuation.
 #[tactic(auto, using(crate::proofs::Ordered::tied_mean_the_same))]
 pub fn equal_means_the_same()
     ensures { (d e : Diagram Question) → IsCanonical d → IsCanonical e →
@@ -36,7 +36,7 @@ pub fn equal_trees_mean_the_same(tree: &MarkerTreeRef, other: &MarkerTreeRef)
     other.is_canonical();
 }
 
-/// So equal trees have one diagram, and print the same.
+/// Equal trees have one diagram, and print the same.
 #[tactic(auto, using(crate::proofs::Printed::tied_are_same, crate::proofs::Printed::tied_print_the_same))]
 pub fn equal_trees_print_the_same(tree: &MarkerTreeRef, other: &MarkerTreeRef)
     ensures diagram { IsTrue (eq_by_cmp tree_ref_cmp tree.now other.now) →

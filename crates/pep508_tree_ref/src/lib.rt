@@ -1,4 +1,5 @@
-//! Marker trees with their interners (PEP 508, "Environment Markers"), which are compared by what they mean.
+//! Marker trees with their interners (PEP 508, "Environment Markers"), which are compared by their
+//! meanings.
 #![tactic(auto)]
 
 mod end;

@@ -1,4 +1,4 @@
-//! Which of two trees comes first by what they show.
+//! The order of two trees by their diagrams.
 
 ghost use Rattle.std.specs.Prelude.{◌≡◌, option_map};
 ghost use Rattle.std.specs.List.{AllByRecursion, slice_get};
@@ -16,7 +16,7 @@ use std::alloc::Global;
 use std::cmp::Ordering;
 use std::collections::BTreeSet;
 
-/// The order of two trees, each in its own interner.
+/// Compares two trees, each in its own interner.
 pub(crate) fn cmp_trees(
     alloc: Global,
     tree: MarkerTree,
@@ -33,7 +33,7 @@ pub(crate) fn cmp_trees(
     cmp_beside(&mut known, tree, interner, other, other_interner)
 }
 
-/// The order of where two trees' edges end, by the edges' place.
+/// Compares the ends of two trees' edges, by the edges' place.
 fn cmp_ends_at(
     tree: MarkerTree,
     interner: &Interner,
@@ -52,8 +52,8 @@ fn cmp_ends_at(
     )
 }
 
-/// The order of two trees beside pairs that are known to tie. It recurses as deep as a path from the root is
-/// long.
+/// Compares two trees, with pairs that are known to be equal. It recurses as deep as a path from the root
+/// is long.
 fn cmp_beside(
     known: &mut BTreeSet<(Name, Name)>,
     tree: MarkerTree,

@@ -9,7 +9,7 @@ ghost use Rattle.pep508_evaluation.specs.Steps.{children_of};
 
 use pep508_tree::{Children, Interner, MarkerTree, TreeNode};
 
-/// The child between two boundaries, by its place.
+/// Returns the child between two endpoints, by its place.
 fn child_between<T>(children: Children<T>, index: usize) -> Option<MarkerTree>
     ensures { result ≡ option_map (turned children.entry.negated)
         (slice_get (children.entry.first ∷ map (λ branch. branch.child) children.entry.later.now) index) }
@@ -36,7 +36,7 @@ fn child_at(tree: MarkerTree, interner: &Interner, index: usize) -> Option<Marke
     }
 }
 
-/// A child by its place, which was made before the tree; there is none behind the last.
+/// Returns a child by its place, which was made before the tree; `None` past the last child.
 pub(crate) fn root_child(tree: MarkerTree, interner: &Interner, index: usize) -> Option<MarkerTree>
     requires { IsTree interner.now.nodes tree }
     ensures child { result ≡ slice_get (children_of (root_of interner.now.nodes tree)) index }
@@ -47,7 +47,7 @@ pub(crate) fn root_child(tree: MarkerTree, interner: &Interner, index: usize) ->
     child_at(tree, interner, index)
 }
 
-/// How many children the node has.
+/// Returns the number of children of the node.
 pub(crate) fn root_child_count(tree: MarkerTree, interner: &Interner) -> usize
     requires { IsTree interner.now.nodes tree }
     ensures { result ≡ length (children_of (root_of interner.now.nodes tree)) }

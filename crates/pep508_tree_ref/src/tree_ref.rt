@@ -1,4 +1,15 @@
 //! Marker trees with their interners.
+//!
+//! `MarkerTreeRef` is `Copy` and so has no model; that its tree belongs to its interner is a fact next to
+//! its fields, and `tree_in` says what contracts see. Its equality is that of its order. A comparison
+//! remembers the pairs of nodes that it found equal; where memory for them is refused it walks them again,
+//! and the result is the same. Whether two borrow one interner cannot be told, since `==` has to follow
+//! from the values, so trees of one name are walked as any two. The prover does not cover a function that
+//! copies one, nor one that copies a view; they are borrowed.
+//!
+//! The text is made while it is printed, by the allocator that `new` was given: `new` allocates nothing,
+//! and lack of memory while printing is `fmt::Error`. A tree that never holds prints its text, which tools
+//! can read, and not `false`.
 
 ghost use Rattle.pep508_tree.specs.Meaning.{IsTree};
 
@@ -10,17 +21,17 @@ use std::cmp::Ordering;
 use std::fmt;
 
 /// A marker tree with the interner that it was made with, so that trees of different interners can be
-/// compared and printed (PEP 508, "Environment Markers"). Contracts see it by `tree_in`, as the tree with
-/// the interner's nodes.
+/// compared and printed (PEP 508, "Environment Markers"). Its model in contracts is `tree_in`, the tree
+/// with the interner's nodes.
 ///
 /// Two of them are equal exactly where their trees mean the same (`laws::equal_trees_mean_the_same`). A
-/// comparison ends at the first difference. It takes memory for the pairs of nodes that it found equal,
-/// so that it walks each node once or twice, in O(n log n) steps for n nodes; where memory is refused, a
-/// pair is walked again for each path that leads to it. Trees of one interner are compared in constant
-/// time by the `==` of `MarkerTree`.
+/// comparison ends at the first difference. It takes memory for the pairs of nodes that it found equal, so
+/// that it walks each node once or twice, in O(n log n) steps for n nodes; where memory runs out, a pair is
+/// walked again for each path that leads to it. Trees of one interner are compared in constant time by the
+/// `==` of `MarkerTree`.
 ///
 /// It prints as the tree's text, `true` where the tree always holds. The text is made while it is printed,
-/// and where memory for it is refused, printing fails with `fmt::Error`.
+/// and where memory for it runs out, printing fails with `fmt::Error`.
 #[derive(Clone, Copy)]
 pub struct MarkerTreeRef<'a> {
     alloc: Global,
@@ -39,7 +50,8 @@ impl<'a> MarkerTreeRef<'a> {
     ghost use Rattle.pep508_tree_ref.specs.Lent.{tree_in};
     ghost use Rattle.pep508_tree_ref.specs.TreeIn.{diagram_in};
 
-    /// A tree with its interner, and what gives memory where it is printed or compared. Takes none.
+    /// Returns a tree with its interner, and the allocator by which it is printed or compared. Takes no
+    /// memory.
     pub fn new(alloc: Global, interner: &'a Interner, tree: MarkerTree) -> MarkerTreeRef<'a>
         requires { IsTree interner.now.nodes tree }
         ensures { tree_in result ≡ record { nodes = interner.now.nodes; tree = tree } }
@@ -51,8 +63,8 @@ impl<'a> MarkerTreeRef<'a> {
         }
     }
 
-    /// The text of the tree, made by the allocator of `new`; none where the tree always holds. Takes memory
-    /// as `MarkerTreeText::try_to_string`.
+    /// Returns the text of the tree, made by the allocator of `new`; `None` where the tree always holds.
+    /// Takes memory as `MarkerTreeText::try_to_string`.
     pub fn try_to_string(&self) -> Result<Option<String>, AllocError>
         ensures { IfOk result (λ text.
             option_map string_bytes text ≡ marker_text (diagram_in (tree_in self.now))) }
@@ -60,7 +72,8 @@ impl<'a> MarkerTreeRef<'a> {
         self.tree.try_to_string(self.alloc, self.interner)
     }
 
-    /// No question is asked in vain in it, and each version is in its shortest spelling. Does nothing.
+    /// Shows that the tree has no needless question, and each version is in its shortest spelling. Does
+    /// nothing.
     #[tactic(auto, using(pep508_tree::proofs::OneTree::canonical_trees, pep508_tree::proofs::Shortened::short_trees))]
     pub fn is_canonical(&self)
         ensures canonical { IsCanonical (diagram_in (tree_in self.now)) }

@@ -3,11 +3,11 @@ use Rattle.std.specs.Prelude.{ℕ, ◌==◌, nat_lt, eqb, Bool, if◌then◌else
 use Rattle.std.specs.Prelude.{Option, Some, None}
 use Rattle.std.specs.List.{starts_with, position_or_len, before_first, after_first}
 
--- what follows a word, where it stands at the front
+-- the text after a word, where it is at the front
 unfoldable pub behind : List ℕ → List ℕ → Option (List ℕ)
 behind word text = if starts_with eqb text word then Some (drop (length word) text) else None
 
--- what stands before the first such byte and what follows it, where there is one
+-- the bytes before the first such byte and those after it, where there is one
 unfoldable pub cut : ℕ → List ℕ → Option (List ℕ × List ℕ)
 cut byte text =
     if nat_lt (position_or_len (λ b. b == byte) text) (length text)

@@ -1,5 +1,5 @@
--- A text with the values of the variables that it names: each `${NAME}` whose NAME is a known variable's is
--- replaced by the value, from left to right, once: what a value brings is not looked at again.
+-- A text with its variables expanded: each `${NAME}` whose NAME is a known variable's is replaced by the
+-- value, from left to right, once: values are not expanded again.
 use Rattle.std.specs.Prelude.{◌≡◌, ◌≢◌, true, ℕ, ◌==◌, nat_lt, ◌&&◌, ◌||◌, Bool, if◌then◌else◌}
 use Rattle.std.specs.Prelude.{List, [], ◌∷◌, ◌++◌}
 use Rattle.std.specs.Prelude.{length, codes, flat_map, Option, Some, None, option_and_then, option_map}
@@ -30,11 +30,11 @@ abbrev pub replaced : List ℕ → Option (List ℕ × List ℕ) → List ℕ
 replaced text None = 36 ∷ text
 replaced text (Some found) = found.0 ++ found.1
 
--- what stands for a `$` and the text that follows it up to the next one
+-- the expansion of a `$` and the text that follows it up to the next one
 unfoldable pub behind_dollar : Variables → List ℕ → List ℕ
 behind_dollar vars text = replaced text (reference vars text)
 
--- the texts between the `$`, each but the first with what its `$` stands for
+-- the texts between the `$`, each but the first with the expansion of its `$`
 abbrev pub expanded_parts : Variables → List (List ℕ) → List ℕ
 expanded_parts vars [] = []
 expanded_parts vars (first ∷ others) = first ++ flat_map (behind_dollar vars) others
@@ -43,11 +43,11 @@ expanded_parts vars (first ∷ others) = first ++ flat_map (behind_dollar vars) 
 unfoldable pub expanded : Variables → List ℕ → List ℕ
 expanded vars text = expanded_parts vars (slice_split (λ b. b == 36) text)
 
--- no `${` stands in the text
+-- the text contains no `${`
 abbrev pub LacksOpening : List ℕ → Type 0
 LacksOpening text = (front back : List ℕ) → text ≢ front ++ codes "${" ++ back
 
--- a name in braces behind a `$`
+-- a name in braces after a `$`
 abbrev pub reference_text : List ℕ → List ℕ
 reference_text name = codes "${" ++ name ++ codes "}"
 
@@ -55,7 +55,7 @@ reference_text name = codes "${" ++ name ++ codes "}"
 abbrev pub IsKnown : Variables → List ℕ → List ℕ → Type 0
 IsKnown vars name value = (is_variable_name name ≡ true) × (value_of vars name ≡ Some value)
 
--- no known variable's name stands in the text in braces behind a `$`
+-- the text contains no known variable's name in braces after a `$`
 abbrev pub LacksReference : Variables → List ℕ → Type 0
 LacksReference vars text =
     (front name value back : List ℕ) → IsKnown vars name value → text ≢ front ++ reference_text name ++ back

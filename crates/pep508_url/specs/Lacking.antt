@@ -1,4 +1,4 @@
--- Which errors are want of memory.
+-- Which errors are lack of memory.
 use Rattle.std.specs.Prelude.{Bool, true, false}
 use Rattle.url.specs.declared.error.ParseError.{ParseError}
 use Rattle.url.specs.declared.error.ParseError.TheVariants.{OutOfMemory, Overflow}

@@ -1,4 +1,4 @@
--- Paths: their normal form, and the path that a `file` URL's text stands for.
+-- Paths: their normal form, and the path that a `file` URL's text names.
 use Rattle.std.specs.Prelude.{ℕ, ◌-◌, ◌==◌, ◌||◌, Bool, if◌then◌else◌, List, [], ◌∷◌, ◌++◌, length, take}
 use Rattle.std.specs.Prelude.{slice_index, codes, bytes_eq, fold, Option, Some, None, option_map, unwrap_or}
 use Rattle.std.specs.Prelude.{Result, Ok, Err}
@@ -17,13 +17,13 @@ without_last parts = if length parts == 0 then None else Some (take (length part
 abbrev pub changes_nothing : List ℕ → Bool
 changes_nothing part = length part == 0 || bytes_eq part (codes ".")
 
--- what a part leaves of the parts before it: `..` takes the last, another part stands behind them
+-- the parts before a part with it: `..` removes the last, another part is appended
 abbrev pub with_part : List (List ℕ) → List ℕ → Option (List (List ℕ))
 with_part parts part =
     if changes_nothing part then Some parts
     else (if bytes_eq part (codes "..") then without_last parts else Some (parts ++ part ∷ []))
 
--- nothing where a `..` found no part to take
+-- nothing where a `..` found no part to remove
 abbrev pub behind_parts : Option (List (List ℕ)) → List ℕ → Option (List (List ℕ))
 behind_parts None part = None
 behind_parts (Some parts) part = with_part parts part
@@ -54,7 +54,7 @@ normal_reading path = if_normal path (normal_path path)
 unfoldable pub utf8_decoded : List ℕ → Option (List ℕ)
 utf8_decoded text = if is_utf8 (percent_decode text) then Some (percent_decode text) else None
 
--- the same, or the text as it is
+-- the text with its escapes decoded, where the bytes are UTF-8, or the text as it is
 abbrev pub decoded : List ℕ → List ℕ
 decoded text = unwrap_or (utf8_decoded text) text
 

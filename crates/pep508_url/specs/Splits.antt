@@ -1,4 +1,4 @@
--- The host before a path of a `file` URL, and the extras behind a URL.
+-- The host before a path of a `file` URL, and the extras after a URL.
 use Rattle.std.specs.Prelude.{◌≡◌, ℕ, ◌<◌, ◌==◌, ◌||◌, Bool, true, false, if◌then◌else◌, List, [], ◌∷◌, ◌++◌}
 use Rattle.std.specs.Prelude.{length, slice_index, All, codes, Option, Some, None, unwrap_or, option_and_then}
 use Rattle.pep508_url.specs.Cuts.{behind, is_absolute}
@@ -18,13 +18,13 @@ without_host text = unwrap_or (local_path text) (unwrap_or (behind (codes "//") 
 abbrev pub is_bracket : ℕ → Bool
 is_bracket b = b == 91 || b == 93
 
--- the last bracket among the bytes stands at this place
+-- the last bracket among the bytes is at this place
 pub record IsLastBracket (bytes : List ℕ) (place : ℕ) : Type 0 where
   pub within : place < length bytes
   pub bracket : is_bracket (slice_index bytes place) ≡ true
   pub after : (k : ℕ) → place < k → k < length bytes → is_bracket (slice_index bytes k) ≡ false
 
--- the text is a URL and, behind it, brackets with no bracket between them
+-- the text is a URL followed by brackets with no bracket between them
 pub record IsExtrasSplit (text url extras : List ℕ) : Type 0 where
   pub inside : List ℕ
   pub brackets : extras ≡ 91 ∷ (inside ++ 93 ∷ [])

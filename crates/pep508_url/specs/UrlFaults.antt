@@ -1,11 +1,11 @@
--- Why a text is not taken for a URL.
+-- Why a text is not a URL.
 use Rattle.std.specs.Prelude.{ℕ, List, ◌++◌, codes, string_bytes, Option, Some, None}
 use Rattle.url.specs.declared.error.ParseError.{ParseError}
 use Rattle.url.specs.declared.error.ParseError.TheVariants.{OutOfMemory, Overflow}
 use Rattle.pep508_url.specs.declared.error.VerbatimUrlError.{VerbatimUrlError}
 use Rattle.pep508_url.specs.declared.error.VerbatimUrlError.TheVariants as errors
 
--- the crate `url` does not read the text; a relative path stands where there is no directory; a URL is no
+-- the crate `url` does not read the text; a path is relative and there is no directory; a URL names no
 -- path; a path goes beyond the root
 pub data UrlFault : Type 0 where
   NotRead : ParseError → UrlFault
@@ -13,7 +13,7 @@ pub data UrlFault : Type 0 where
   UrlConversion : List ℕ → UrlFault
   Normalization : List ℕ → UrlFault
 
--- the fault that an error tells
+-- the fault that an error reports
 abbrev pub told_url : VerbatimUrlError → Option UrlFault
 told_url errors.Memory = None
 told_url (errors.Url error) = Some (NotRead error)
@@ -21,7 +21,7 @@ told_url (errors.WorkingDirectory path) = Some (WorkingDirectory (string_bytes p
 told_url (errors.UrlConversion path) = Some (UrlConversion (string_bytes path))
 told_url (errors.Normalization path) = Some (Normalization (string_bytes path))
 
--- what an error prints; the text for what the crate `url` refuses is that crate's
+-- the print of an error; for a text that the crate `url` refuses it is that crate's
 abbrev pub url_error_text : VerbatimUrlError → Option (List ℕ)
 url_error_text errors.Memory = Some (codes "out of memory")
 url_error_text (errors.Url error) = None
@@ -32,7 +32,7 @@ url_error_text (errors.UrlConversion path) =
 url_error_text (errors.Normalization path) =
     Some (codes "path could not be normalized: " ++ string_bytes path)
 
--- the error for what the crate `url` answers, where want of room is want of memory
+-- the error for that of the crate `url`, where lack of room is lack of memory
 abbrev pub error_of : ParseError → VerbatimUrlError
 error_of OutOfMemory = errors.Memory
 error_of Overflow = errors.Memory

@@ -1,4 +1,4 @@
--- Which text is which URL. What the crate `url` reads, it reads by the URL Standard.
+-- Which text is which URL. The crate `url` reads texts by the URL Standard.
 use Rattle.std.specs.Prelude.{ℕ, ◌==◌, ◌||◌, ◌&&◌, not, Bool, if◌then◌else◌, List, ◌∷◌, [], ◌++◌, codes}
 use Rattle.std.specs.Prelude.{bytes_eq, flat_map, Option, Some, None, Result, Ok, Err}
 use Rattle.std.specs.declared.cmp.Ordering.{Ordering}
@@ -29,7 +29,7 @@ pub record Verbatim : Type 0 where
   pub url : Parts
   pub given : Option (List ℕ)
 
--- what a URL prints; URLs compare and hash by this, whatever they were given as
+-- the print of a URL; URLs compare and hash by this, whatever text was given
 abbrev pub url_text : Verbatim → List ℕ
 url_text verbatim = serialize verbatim.url
 
@@ -44,7 +44,7 @@ abbrev pub and_read : {A B : Type 0} → Result A UrlFault → (A → Result B U
 and_read (Ok x) next = next x
 and_read (Err fault) next = Err fault
 
--- what the crate `url` reads, or its fault
+-- the URL that the crate `url` reads, or its fault
 abbrev pub as_read : Parsed Parts → Result Parts UrlFault
 as_read (Ok url) = Ok url
 as_read (Err error) = Err (NotRead error)
@@ -54,7 +54,8 @@ text_reading text = as_read (parse_url None text)
 
 -- ---- a path's URL (RFC 8089, section 2)
 
--- a byte that may stand in a path as it is: RFC 3986's `pchar` without escapes (section 3.3), `/`, `[`, `]`
+-- a byte that is allowed in a path as it is: RFC 3986's `pchar` without escapes (section 3.3), `/`, `[`,
+-- `]`
 abbrev pub is_path_byte : ℕ → Bool
 is_path_byte b = is_ascii_alphanumeric b || list_any (λ kept. kept == b) (codes "-._~!$&'()*+,;=:@/[]")
 
@@ -79,20 +80,20 @@ by_fragment path (Some parts) = with_fragment parts.1 (text_reading (file_text p
 unfoldable pub file_reading : List ℕ → Result Parts UrlFault
 file_reading path = by_fragment path (cut 35 path)
 
--- the URL of a path, which is absolute or stands in the directory
+-- the URL of a path, which is absolute or relative to the directory
 unfoldable pub path_reading : List ℕ → Option (List ℕ) → Result Parts UrlFault
 path_reading path directory =
     and_read (absolute_reading path directory) (λ absolute. and_read (normal_reading absolute) file_reading)
 
 -- ---- a requirement's URL (PEP 508, "Grammar")
 
--- what a text names: a path, or what the crate `url` reads
+-- a text names a path, or a URL that the crate `url` reads
 pub data Named : Type 0 where
   Path : List ℕ → Named
   Url : Named
 
--- what a text of a scheme names: that of `file` a path, that of another listed scheme a URL, and any other a
--- path
+-- the meaning of a text by its scheme: a path for `file`, a URL for another listed scheme, and a path for
+-- any other
 abbrev pub by_scheme : List ℕ → List ℕ → Option Scheme → Named
 by_scheme text rest None = Path text
 by_scheme text rest (Some File) = Path (decoded (without_host rest))
@@ -102,7 +103,7 @@ abbrev pub by_split : List ℕ → Option (List ℕ × List ℕ) → Named
 by_split text None = Path text
 by_split text (Some parts) = by_scheme text parts.1 (scheme_of parts.0)
 
--- what a text names whose variables have their values
+-- the meaning of a text whose variables are expanded: a path, or a URL
 unfoldable pub place_of : List ℕ → Named
 place_of text = by_split text (scheme_split text)
 
@@ -114,11 +115,11 @@ abbrev pub named_reading : List ℕ → Option (List ℕ) → Named → Result P
 named_reading text directory (Path path) = path_reading path directory
 named_reading text directory Url = text_reading text
 
--- the URL of a text whose variables have their values
+-- the URL of a text whose variables are expanded
 unfoldable pub url_reading : List ℕ → Option (List ℕ) → Result Parts UrlFault
 url_reading text directory = named_reading text directory (place_of text)
 
--- the URL, given as a text or as none
+-- the URL, with or without a given text
 abbrev pub given_as : Option (List ℕ) → Result Parts UrlFault → Result Verbatim UrlFault
 given_as given (Ok url) = Ok (record { url = url; given = given })
 given_as given (Err fault) = Err fault
@@ -141,6 +142,6 @@ abbrev pub if_local : Parts → Option (List ℕ) → Result (List ℕ) UrlFault
 if_local url None = Err (UrlConversion (serialize url))
 if_local url (Some path) = Ok path
 
--- the path that a URL stands for, or the text of the URL that stands for none
+-- the path that a URL names, or the text of the URL that names none
 abbrev pub path_of : Parts → Result (List ℕ) UrlFault
 path_of url = if_local url (local_path url)

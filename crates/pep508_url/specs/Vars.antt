@@ -6,7 +6,7 @@ use Rattle.std.specs.List.{slice_get}
 use Rattle.std.specs.Option.{option_or}
 use Rattle.pep508_url.specs.Cuts.{is_absolute}
 
--- names with their values, in the order given, and the directory that stands for the project
+-- names with their values, in the order given, and the directory of the project
 pub record Variables : Type 0 where
   pub pairs : List (List ℕ × List ℕ)
   pub project_root : List ℕ

@@ -1,20 +1,20 @@
-//! Why a text is not taken for a URL.
+//! Why a text is not a URL.
 
 use std::alloc::AllocError;
 use std::error::Error;
 use std::fmt;
 use url::ParseError;
 
-/// Why a text is not taken for a URL, or a URL for a path. Each path stands as it was when the fault was met.
+/// Why a text is not a URL, or a URL is not a path. Each path is kept as it was when the fault was met.
 #[derive(Debug, Drop)]
 pub enum VerbatimUrlError {
-    /// Memory ran out, or the URL came to 4 GB.
+    /// Memory ran out, or the URL grew to 4 GB.
     Memory,
     /// The crate `url` refuses the text.
     Url(ParseError),
     /// The path is relative, and there is no working directory.
     WorkingDirectory(String),
-    /// The URL, whose text this is, stands for no path.
+    /// The URL, whose text this is, does not name a path.
     UrlConversion(String),
     /// A `..` of the absolute path goes beyond the root.
     Normalization(String),

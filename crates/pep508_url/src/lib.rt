@@ -1,7 +1,9 @@
-//! URLs of requirements (PEP 508, "Grammar"): variables, schemes, paths, and the URL that keeps its text as
-//! given. Contracts see a text and a path as their bytes, and a URL as the parts that the crate `url` makes
-//! of it; what text is a URL is that crate's own word, `parse_url`.
 #![tactic(auto)]
+//! URLs of requirements (PEP 508, "Grammar"): variables, schemes, paths, and the URL that keeps its text as
+//! given.
+//!
+//! The model of a text and of a path in contracts is its bytes, and that of a URL the parts that the crate
+//! `url` makes of it; which texts are URLs is that crate's decision, `parse_url`.
 
 mod comparing;
 mod cuts;

@@ -1,4 +1,4 @@
-//! Paths.
+//! Absolute, relative and normal paths.
 
 ghost use Rattle.std.specs.Prelude.{◌≡◌, ◌==◌, ◌++◌, map, IfOk, option_map, option_copied, string_bytes};
 ghost use Rattle.std.specs.Cow.{cow_str_bytes};
@@ -14,10 +14,13 @@ use percent_encoding::{DecodeError, percent_decode_str};
 use std::alloc::{AllocError, Global};
 use std::borrow::CowStr;
 
-/// The path without empty parts, `.` and `..`; refused as `Normalization` where a `..` finds no part before
-/// it to take.
+/// Returns the path without empty parts, `.` and `..`.
 ///
-/// A relative path is taken by its own beginning. One pass, and memory for the list of parts and the path.
+/// A relative path is normalized from its own beginning. One pass, and memory for the list of parts and the
+/// path.
+///
+/// # Errors
+/// `Normalization` where a `..` has no part before it to remove; `Memory` where memory ran out.
 #[tactic(auto, unfolding(crate::specs::Paths::normal_path))]
 pub fn normalize_absolute_path(alloc: Global, path: &str) -> Result<String, VerbatimUrlError>
     ensures { Answers (λ normal. string_bytes normal) told_url result (normal_reading path.now) }
@@ -28,7 +31,7 @@ pub fn normalize_absolute_path(alloc: Global, path: &str) -> Result<String, Verb
     }
 }
 
-/// The parts of the normal path, or nothing where a `..` goes beyond the path's beginning.
+/// Returns the parts of the normal path, or `None` where a `..` goes beyond the path's beginning.
 fn kept_parts<'a>(alloc: Global, path: &'a str) -> Result<Option<Vec<&'a str>>, AllocError>
     ensures { IfOk result (λ kept. option_map (λ parts. map (λ part. part.now) parts.items) kept
         ≡ normal_parts (slice_split (λ b. b == 47) path.now)) }
@@ -49,14 +52,14 @@ fn kept_parts<'a>(alloc: Global, path: &'a str) -> Result<Option<Vec<&'a str>>, 
     Ok(Some(kept))
 }
 
-/// Whether a part of a path is empty or `.`.
+/// Returns whether a part of a path is empty or `.`.
 fn changes_nothing(part: &str) -> bool
     ensures { result ≡ changes_nothing part.now }
 {
     part.is_empty() || part == "."
 }
 
-/// The parts with a slash between each two, behind the slash with which the path begins.
+/// Joins the parts with slashes between them, after the slash with which the path begins.
 fn join_parts(alloc: Global, path: &str, parts: &[&str]) -> Result<String, AllocError>
     ensures { IfOk result (λ text. string_bytes text
         ≡ root_of path.now ++ join_with_byte 47 (map (λ part. part.now) parts.now)) }
@@ -74,15 +77,15 @@ fn join_parts(alloc: Global, path: &str, parts: &[&str]) -> Result<String, Alloc
     Ok(text)
 }
 
-/// The slash with which an absolute path begins.
+/// Returns the slash with which an absolute path begins; empty for a relative one.
 fn root(path: &str) -> &'static str
     ensures { result.now ≡ root_of path.now }
 {
     if is_absolute(path) { "/" } else { "" }
 }
 
-/// The path that the path of a `file` URL stands for: its escapes as their bytes, or the path as it is where
-/// those are no UTF-8. A path without escapes is lent as it is.
+/// Returns the path that the path of a `file` URL means: its escapes decoded, or the path as it is where
+/// the bytes are not UTF-8. A path without escapes is borrowed as it is.
 pub fn normalize_url_path(alloc: Global, path: &str) -> Result<CowStr<'_>, AllocError>
     ensures { IfOk result (λ text. cow_str_bytes text ≡ decoded path.now) }
 {
@@ -92,7 +95,7 @@ pub fn normalize_url_path(alloc: Global, path: &str) -> Result<CowStr<'_>, Alloc
     }
 }
 
-/// The text with its escapes as their bytes, where those are UTF-8.
+/// Returns the text with its escapes decoded, where the bytes are UTF-8.
 pub(crate) fn utf8_decoded(alloc: Global, text: &str) -> Result<Option<CowStr<'_>>, AllocError>
     ensures { IfOk result (λ found. option_map cow_str_bytes found ≡ utf8_decoded text.now) }
 {
@@ -103,7 +106,7 @@ pub(crate) fn utf8_decoded(alloc: Global, text: &str) -> Result<Option<CowStr<'_
     }
 }
 
-/// The path itself where it is absolute, and else the path in the directory.
+/// Returns the path itself where it is absolute, and else the path in the directory.
 #[tactic(auto, unfolding(crate::specs::Paths::absolute_reading))]
 pub(crate) fn absolute_path<'a>(
     alloc: Global,

@@ -1,4 +1,4 @@
-//! What a text names: a path or a URL.
+//! Whether a text names a path or a URL.
 
 ghost use Rattle.std.specs.Prelude.{◌≡◌, IfOk};
 ghost use Rattle.pep508_url.specs.UrlTexts.{named_by, place_of};
@@ -16,8 +16,8 @@ pub enum Place<'a> {
     Url,
 }
 
-/// What a text names whose variables have their values, by its scheme: that of `file` a path, another
-/// `Scheme` a URL, and no scheme or one that is none of these a path.
+/// Returns what a text whose variables are expanded names, by its scheme: a path for `file`, a URL for
+/// another `Scheme`, and a path where there is no scheme or an unknown one.
 ///
 /// Linear in the text; takes memory for a path with escapes alone.
 #[tactic(auto, unfolding(crate::specs::UrlTexts::place_of))]

@@ -1,4 +1,9 @@
-//! Reading of URLs.
+//! Reading URLs.
+//!
+//! What follows the first `#` of a path is set as the URL's fragment and not appended to the path's text: a
+//! fragment that ends in a control character keeps it, as upstream has it, where the crate `url` would trim
+//! the end of a whole text. What stands before the `#` is normalized and read whole, so a slash there
+//! stays; upstream's `from_file_path` drops it.
 
 ghost use Rattle.std.specs.Prelude.{◌≡◌, ◌++◌, IfOk, OnOk, option_copied, option_map, string_bytes};
 ghost use Rattle.read_outcome.specs.Outcome.{Answers};
@@ -15,7 +20,7 @@ use percent_encoding::percent_encode_byte;
 use std::alloc::{AllocError, Global};
 use url::{ParseError, Url};
 
-/// The URL of a text whose variables have their values.
+/// Reads the URL of a text whose variables are expanded.
 #[tactic(auto, unfolding(crate::specs::UrlTexts::url_reading))]
 pub(crate) fn read_requirement_url(
     alloc: Global,
@@ -30,7 +35,7 @@ pub(crate) fn read_requirement_url(
     }
 }
 
-/// The URL that the crate `url` reads.
+/// Reads a URL by the crate `url`.
 pub(crate) fn read_url(alloc: Global, text: &str) -> Result<Url, VerbatimUrlError>
     ensures { Answers (λ url. url) told_url result (text_reading text.now) }
 {
@@ -40,7 +45,7 @@ pub(crate) fn read_url(alloc: Global, text: &str) -> Result<Url, VerbatimUrlErro
     }
 }
 
-/// Want of room is want of memory.
+/// Returns an error of the crate `url` as this crate's; lack of room is lack of memory.
 pub(crate) fn error_of(error: ParseError) -> VerbatimUrlError
     ensures { result ≡ error_of error }
 {
@@ -51,7 +56,7 @@ pub(crate) fn error_of(error: ParseError) -> VerbatimUrlError
     }
 }
 
-/// The URL of a path, which is absolute or stands in the directory.
+/// Returns the URL of a path, which is absolute or relative to the directory.
 #[tactic(auto, unfolding(crate::specs::UrlTexts::path_reading))]
 pub(crate) fn read_path(
     alloc: Global,
@@ -65,7 +70,7 @@ pub(crate) fn read_path(
     read_file(alloc, normal.as_str())
 }
 
-/// The URL of a normal absolute path.
+/// Returns the URL of a normal absolute path.
 #[tactic(auto, unfolding(crate::specs::UrlTexts::file_reading))]
 fn read_file(alloc: Global, path: &str) -> Result<Url, VerbatimUrlError>
     ensures { Answers (λ url. url) told_url result (file_reading path.now) }
@@ -97,7 +102,7 @@ fn read_with_fragment(alloc: Global, path: &str, fragment: &str) -> Result<Url, 
     }
 }
 
-/// The text of the URL of an absolute path.
+/// Returns the text of the URL of an absolute path.
 #[tactic(auto, unfolding(crate::specs::UrlTexts::file_text))]
 fn file_text(alloc: Global, path: &str) -> Result<String, AllocError>
     ensures { IfOk result (λ text. string_bytes text ≡ file_text path.now) }
@@ -127,7 +132,7 @@ fn is_path_byte(byte: u8) -> bool
     byte.is_ascii_alphanumeric() || b"-._~!$&'()*+,;=:@/[]".contains(&byte)
 }
 
-/// The path that a `file` URL without a host stands for.
+/// Returns the path that a `file` URL without a host names.
 pub(crate) fn path_of_url(alloc: Global, url: &Url) -> Result<String, VerbatimUrlError>
     ensures { Answers (λ path. string_bytes path) told_url result (path_of url.now) }
 {

@@ -1,4 +1,8 @@
-//! What a requirement asks of its type of URLs.
+//! What a requirement needs of its type of URLs.
+//!
+//! What a type of URLs reads is a ghost member over the outcome of a call: `Url` and `VerbatimUrl` have
+//! different error types, and the relation needs no third one. `Url(ParseError)` never means lack of
+//! memory: `OutOfMemory` and `Overflow` are `Memory`.
 
 ghost use Rattle.std.specs.Prelude.{◌≡◌, IfSome, Bool, List, ℕ, Option, Some, None, Result, option_copied};
 ghost use Rattle.std.specs.Prelude.{string_bytes};
@@ -18,16 +22,20 @@ use url::{ParseError, Url};
 
 /// A type of URLs that a requirement may have (PEP 508, "Grammar").
 pub trait Pep508Url: fmt::Display + fmt::Debug + Drop {
-    /// Why a text is not taken for a URL.
+    /// Why a text is not a URL.
     type Err: Error + Drop;
 
-    /// This may be returned for a text with these variables, in this directory.
+    /// The results that are allowed for a text with these variables, in this directory.
     ghost reads: { Variables → List ℕ → Option (List ℕ) → Result Self Self.Err → Type 0 };
 
-    /// The error is want of memory.
+    /// Whether the error is lack of memory.
     ghost lacks_memory: { Self.Err → Bool };
 
-    /// Reads a requirement's URL. A relative path stands in the absolute directory, where there is one.
+    /// Reads a requirement's URL. A relative path is resolved against the absolute directory, where there
+    /// is one.
+    ///
+    /// # Errors
+    /// The type's own error, where the text is not a URL or memory ran out.
     fn parse_url(
         alloc: Global,
         text: &str,
@@ -37,48 +45,57 @@ pub trait Pep508Url: fmt::Display + fmt::Debug + Drop {
         requires { IfSome working_dir (λ directory. IsAbsolute directory.now) }
         ensures { reads vars.now text.now (option_copied working_dir.entry) result };
 
-    /// Whether the error is want of memory.
+    /// Returns whether the error is lack of memory.
     fn is_memory(error: &Self::Err) -> bool
         ensures { result ≡ lacks_memory error.now };
 }
 
 /// A type of URLs that a requirement without a name may have, which may be paths.
 pub trait UnnamedRequirementUrl: Pep508Url {
-    /// This may be returned for a path, in this directory.
+    /// The results that are allowed for a path, in this directory.
     ghost reads_path: { List ℕ → Option (List ℕ) → Result Self Self.Err → Type 0 };
 
-    /// This may be returned for the text of a URL.
+    /// The results that are allowed for the text of a URL.
     ghost reads_url: { List ℕ → Result Self Self.Err → Type 0 };
 
     /// The text that the URL was given as.
     ghost given_text: { Self → Option (List ℕ) };
 
-    /// The first URL, given as the text, is the second.
+    /// Whether the second URL is the first one, given as the text.
     ghost is_given: { Self → List ℕ → Self → Type 0 };
 
-    /// The URL of a path, which is absolute or stands in the absolute directory.
+    /// Returns the URL of a path, which is absolute or relative to the absolute directory.
+    ///
+    /// # Errors
+    /// The type's own error, where the path has no URL or memory ran out.
     fn parse_path(alloc: Global, path: &str, working_dir: &str) -> Result<Self, Self::Err>
         requires { IsAbsolute working_dir.now }
         ensures { reads_path path.now (Some working_dir.now) result };
 
-    /// The URL of an absolute path.
+    /// Returns the URL of an absolute path.
+    ///
+    /// # Errors
+    /// The type's own error, where the path is not absolute or has no URL, or memory ran out.
     fn parse_absolute_path(alloc: Global, path: &str) -> Result<Self, Self::Err>
         ensures { reads_path path.now None result };
 
-    /// The URL that a text is, with no variables.
+    /// Reads a URL from its text, without variables.
+    ///
+    /// # Errors
+    /// The type's own error, where the text is not a URL or memory ran out.
     fn parse_unnamed_url(alloc: Global, text: &str) -> Result<Self, Self::Err>
         ensures { reads_url text.now result };
 
-    /// The URL, given as this text.
+    /// Returns the URL with this as the text that it was given as.
     fn with_given(self, given: String) -> Self
         ensures { is_given self (string_bytes given) result };
 
-    /// The text that the URL was given as, where it keeps one.
+    /// Returns the text that the URL was given as, where it keeps one.
     fn given(&self) -> Option<&str>
         ensures { option_copied result ≡ given_text self.now };
 }
 
-/// A text that the crate `url` reads: no variables, and no paths.
+/// A URL that the crate `url` reads: no variables, and no paths.
 impl Pep508Url for Url {
     type Err = ParseError;
 
@@ -100,7 +117,7 @@ impl Pep508Url for Url {
     }
 }
 
-/// A URL or a path whose variables have their values, given as the text.
+/// A URL or a path whose variables are expanded; it keeps the text as given.
 impl Pep508Url for VerbatimUrl {
     type Err = VerbatimUrlError;
 

@@ -9,7 +9,7 @@ ghost use Rattle.pep508_url.specs.Schemes.{scheme_text, scheme_of, scheme_split,
 use crate::cuts::cut;
 use std::fmt;
 
-/// A scheme of URLs that pip knows: a file, the web, or a version control system and how it is reached.
+/// A scheme of URLs that pip knows: a file, the web, or a version control system and its transport.
 #[derive(Debug, Clone, Copy, PartialEq, Eq)]
 pub enum Scheme {
     File,
@@ -42,7 +42,7 @@ pub enum Scheme {
 impl Scheme {
     ghost use Rattle.pep508_url.specs.declared.scheme.Scheme.TheVariants.{File};
 
-    /// The scheme that is written so, in lower case alone.
+    /// Returns the scheme of this text, in lower case alone; `None` where it is unknown.
     #[tactic(auto, unfolding(crate::specs::Schemes::scheme_of))]
     pub fn parse(text: &str) -> Option<Self>
         ensures { result ≡ scheme_of text.now }
@@ -77,7 +77,7 @@ impl Scheme {
         }
     }
 
-    /// Whether it is `file`.
+    /// Returns whether the scheme is `file`.
     pub fn is_file(self) -> bool
         ensures { IsTrue result ↔ (self ≡ File) }
     {
@@ -127,8 +127,8 @@ impl fmt::Display for Scheme {
     }
 }
 
-/// The scheme of a text (RFC 3986, section 3.1), and what follows its `:`. Controls and blanks around the
-/// text are left out first. The scheme need not be one of `Scheme`. One pass, and no memory.
+/// Splits a text into its scheme (RFC 3986, section 3.1) and what follows the `:`. Controls and blanks
+/// around the text are left out first. The scheme need not be one of `Scheme`. One pass, and no memory.
 #[tactic(auto, unfolding(crate::specs::Schemes::scheme_split))]
 pub fn split_scheme(text: &str) -> Option<(&str, &str)>
     ensures { option_map (λ parts. (parts.0.now, parts.1.now)) result ≡ scheme_split text.now }
@@ -141,7 +141,7 @@ pub fn split_scheme(text: &str) -> Option<(&str, &str)>
     }
 }
 
-/// The text without the bytes up to U+0020 at its ends.
+/// Returns the text without the bytes up to U+0020 at its ends.
 #[tactic(auto, unfolding(url::specs::Input::trim_c0_control_and_space))]
 fn trimmed(text: &str) -> &str
     ensures { result.now ≡ trim_c0_control_and_space text.now }

@@ -1,12 +1,13 @@
-//! The host before a path, and the extras behind a URL.
+//! Splitting off the host before a path, and the extras after a URL.
 
 ghost use Rattle.std.specs.Prelude.{◌≡◌, List, ℕ, All, false, MatchOption, option_copied};
 ghost use Rattle.pep508_url.specs.Splits.{without_host, local_path, is_bracket, IsLastBracket, IsExtrasSplit};
 
 use crate::cuts::{behind, is_absolute};
 
-/// The path of a `file` URL behind its scheme (RFC 8089, section 2): without the `//` in front, or without
-/// `//localhost` where a `/` follows that. Any other text stays. No memory is taken.
+/// Returns the path of a `file` URL from what follows its scheme (RFC 8089, section 2): without the `//` in
+/// front, or without `//localhost` where a `/` follows that. Any other text is returned as it is. No memory
+/// is taken.
 #[tactic(auto, unfolding(crate::specs::Splits::without_host))]
 pub fn strip_host(path: &str) -> &str
     ensures { result.now ≡ without_host path.now }
@@ -20,7 +21,7 @@ pub fn strip_host(path: &str) -> &str
     }
 }
 
-/// What follows `//localhost` at the front, where it begins with `/`.
+/// Returns the text after `//localhost` at the front, where that text begins with `/`.
 #[tactic(auto, unfolding(crate::specs::Splits::local_path))]
 fn local_path(path: &str) -> Option<&str>
     ensures { option_copied result ≡ local_path path.now }
@@ -29,7 +30,8 @@ fn local_path(path: &str) -> Option<&str>
     if is_absolute(rest) { Some(rest) } else { None }
 }
 
-/// The URL and the extras of a text that ends in brackets with no bracket between them. No memory is taken.
+/// Splits a text that ends in brackets, with no bracket between them, into the URL and the extras. No
+/// memory is taken.
 pub fn split_extras(text: &str) -> Option<(&str, &str)>
     ensures { MatchOption result ((url extras : List ℕ) → IsExtrasSplit text.now url extras → ⊥)
         (λ parts. IsExtrasSplit text.now parts.0.now parts.1.now) }

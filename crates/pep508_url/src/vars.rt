@@ -1,4 +1,11 @@
 //! Variables, and texts with their values.
+//!
+//! For expansion a text is cut at each `$`. A variable's name holds none, so this is leftmost-first
+//! replacement, done once, and the definition has no loop; laws state it by the leftmost reference.
+//!
+//! `Vars` keeps the pairs as given, by which its definition goes, and a map from each name to the index of
+//! its first pair, so that a look-up takes O(log n) comparisons. The map has each name once more; a sorted
+//! list of indices would save that, but the map's contract saves the proofs of a search.
 
 ghost use Rattle.std.specs.Prelude.{◌≡◌, ◌++◌, ℕ, List, map, IfOk, OnOk, if◌then◌else◌, None, bytes_eq};
 ghost use Rattle.std.specs.Prelude.{option_copied, option_map, string_bytes};
@@ -16,10 +23,10 @@ use std::borrow::CowStr;
 use std::collections::BTreeMap;
 use std::marker::Model;
 
-/// The variables that a URL may name, which a caller takes from the process's environment or makes itself.
+/// The variables that a URL may name, which a caller reads from the process's environment or makes itself.
 ///
-/// It keeps copies of its own, of the names two. Contracts see it as the pairs of names and values, in order,
-/// and the project's root.
+/// It keeps copies of its own, of the names two. Its model in contracts is the pairs of names and values,
+/// in order, and the project's root.
 #[derive(Drop)]
 pub struct Vars {
     pairs: Vec<(String, String)>,
@@ -44,8 +51,8 @@ impl Model for Vars {
 }
 
 impl Vars {
-    /// Names with their values, of which the first pair of a name counts, and the absolute path of the
-    /// project.
+    /// Returns the variables of names with their values, of which the first pair of a name counts, and the
+    /// absolute path of the project.
     ///
     /// Copies every text, and the names twice. With n pairs it takes O(n log n) comparisons of names.
     pub fn new(
@@ -75,8 +82,8 @@ impl Vars {
         })
     }
 
-    /// The value of a variable: that of its first pair, and for `PROJECT_ROOT` without a pair the project's
-    /// root.
+    /// Returns the value of a variable: that of its first pair, and for `PROJECT_ROOT` without a pair the
+    /// project's root.
     ///
     /// With n pairs it takes O(log n) comparisons of names.
     #[tactic(auto, unfolding(crate::specs::Vars::value_of))]
@@ -99,7 +106,7 @@ impl Vars {
         }
     }
 
-    /// The absolute path of the project.
+    /// Returns the absolute path of the project.
     pub fn project_root(&self) -> &str
         ensures path { result.now ≡ self.now.project_root }
         ensures absolute { IsAbsolute self.now.project_root }
@@ -108,7 +115,7 @@ impl Vars {
     }
 }
 
-/// The places of the first pairs of the names.
+/// Returns for each name the place of its first pair.
 fn first_places(
     alloc: Global,
     pairs: &[(String, String)],
@@ -122,7 +129,7 @@ fn first_places(
     Ok(places)
 }
 
-/// Adds the place of a pair of a name that has none yet.
+/// Adds the place of a pair, unless its name has one.
 fn add_place(
     alloc: Global,
     pairs: &[(String, String)],
@@ -141,7 +148,7 @@ fn add_place(
     Ok(())
 }
 
-/// The value of the pair at a name's place.
+/// Returns the value of the pair at a name's place.
 fn find<'a>(
     pairs: &'a [(String, String)],
     places: &BTreeMap<String, usize>,
@@ -154,11 +161,11 @@ fn find<'a>(
     Some(value.as_str())
 }
 
-/// The text with the values of the variables that it names as `${NAME}`, with a NAME of capital letters,
-/// digits and `_`. A name that is not known stays as it is written, and what a value brings is not looked at
-/// again.
+/// Returns the text with the value in place of each variable that it names as `${NAME}`, with a NAME of
+/// capital letters, digits and `_`. A name that is not known stays as it is written, and values are not
+/// expanded again.
 ///
-/// Linear in what it gives; each name is looked up as by `value`. A text without `$` is lent as it is.
+/// Linear in the result; each name is looked up as by `value`. A text without `$` is borrowed as it is.
 pub fn expand_env_vars<'a>(
     alloc: Global,
     text: &'a str,
@@ -177,7 +184,7 @@ pub fn expand_env_vars<'a>(
     Ok(CowStr::Owned(expanded))
 }
 
-/// Appends what stands for a `$` and the text that follows it up to the next one.
+/// Appends the expansion of a `$` and the text that follows it up to the next one.
 #[tactic(auto, unfolding(crate::specs::Expansion::behind_dollar))]
 fn push_part(expanded: &mut String, part: &str, vars: &Vars) -> Result<(), AllocError>
     ensures { OnOk result
@@ -195,7 +202,7 @@ fn push_part(expanded: &mut String, part: &str, vars: &Vars) -> Result<(), Alloc
     }
 }
 
-/// The value of the variable whose name in braces stands at the front, and what follows the braces.
+/// Returns the value of the variable whose name in braces is at the front, and the text after the braces.
 #[tactic(auto, unfolding(crate::specs::Expansion::reference))]
 fn reference<'a>(text: &'a str, vars: &'a Vars) -> Option<(&'a str, &'a str)>
     ensures { option_map (λ found. (found.0.now, found.1.now)) result ≡ spec.reference vars.now text.now }

@@ -38,14 +38,17 @@ impl Model for VerbatimUrl {
 }
 
 impl VerbatimUrl {
-    /// The URL, given as no text.
+    /// Returns the URL without a given text.
     pub fn from_url(url: Url) -> Self
         ensures { result ≡ record { url = url; given = None } }
     {
         VerbatimUrl { url, given: None }
     }
 
-    /// The URL that the crate `url` reads, with no variables, given as no text.
+    /// Reads a URL by the crate `url`, without variables and without keeping the text.
+    ///
+    /// # Errors
+    /// `Url` where that crate refuses the text; `Memory` where memory ran out, or the URL grew to 4 GB.
     pub fn parse_url(alloc: Global, text: &str) -> Result<Self, VerbatimUrlError>
         ensures { Answers (λ url. url) told_url result (given_as None (text_reading text.now)) }
     {
@@ -55,7 +58,10 @@ impl VerbatimUrl {
         }
     }
 
-    /// The URL that the crate `url` reads, with no variables, given as the text.
+    /// Reads a URL by the crate `url`, without variables, and keeps the text as given.
+    ///
+    /// # Errors
+    /// `Url` where that crate refuses the text; `Memory` where memory ran out, or the URL grew to 4 GB.
     pub fn from_str(alloc: Global, text: &str) -> Result<Self, VerbatimUrlError>
         ensures { Answers (λ url. url) told_url result (given_as (Some text.now) (text_reading text.now)) }
     {
@@ -69,10 +75,14 @@ impl VerbatimUrl {
         })
     }
 
-    /// The URL of a path, which is absolute or stands in the absolute directory, given as no text. What
-    /// follows the path's first `#` is the URL's fragment.
+    /// Returns the URL of a path, which is absolute or relative to the absolute directory, without a given
+    /// text. The text after the path's first `#` is the URL's fragment.
     ///
     /// Linear in the two texts.
+    ///
+    /// # Errors
+    /// `Normalization` where a `..` goes beyond the root; `Url` where the crate `url` refuses the path's
+    /// text; `Memory` where memory ran out, or the URL grew to 4 GB.
     pub fn from_path(alloc: Global, path: &str, working_dir: &str) -> Result<Self, VerbatimUrlError>
         requires { IsAbsolute working_dir.now }
         ensures { Answers (λ url. url) told_url result
@@ -84,7 +94,10 @@ impl VerbatimUrl {
         }
     }
 
-    /// The URL of an absolute path, as `from_path` gives it; another is refused as `WorkingDirectory`.
+    /// Returns the URL of an absolute path, as `from_path` does.
+    ///
+    /// # Errors
+    /// `WorkingDirectory` where the path is relative; else those of `from_path`.
     pub fn from_absolute_path(alloc: Global, path: &str) -> Result<Self, VerbatimUrlError>
         ensures { Answers (λ url. url) told_url result (given_as None (path_reading path.now None)) }
     {
@@ -94,7 +107,7 @@ impl VerbatimUrl {
         }
     }
 
-    /// The URL, given as this text. Takes no memory.
+    /// Returns the URL with this as the text that it was given as. Takes no memory.
     pub fn with_given(self, given: String) -> Self
         ensures { result ≡ record self { given = Some (string_bytes given) } }
     {
@@ -105,7 +118,7 @@ impl VerbatimUrl {
         }
     }
 
-    /// The text that the URL was given as.
+    /// Returns the text that the URL was given as, where it keeps one.
     pub fn given(&self) -> Option<&str>
         ensures { option_copied result ≡ self.now.given }
     {
@@ -115,21 +128,21 @@ impl VerbatimUrl {
         }
     }
 
-    /// The URL itself.
+    /// Returns the URL itself.
     pub fn raw(&self) -> &Url
         ensures { result.now ≡ self.now.url }
     {
         &self.url
     }
 
-    /// A copy of the URL itself.
+    /// Returns a copy of the URL itself.
     pub fn to_url(&self) -> Result<Url, AllocError>
         ensures { IfOk result (λ url. url ≡ self.now.url) }
     {
         self.url.clone()
     }
 
-    /// The URL itself, without the text that it was given as.
+    /// Returns the URL itself, without the text that it was given as.
     pub fn into_url(self) -> Url
         ensures { result ≡ self.url }
     {
@@ -137,15 +150,19 @@ impl VerbatimUrl {
         url
     }
 
-    /// The path that a URL of the scheme `file` without a host stands for (RFC 8089, section 2): its escapes
-    /// as their bytes. Refused as `UrlConversion` for another URL, and where the bytes are no UTF-8.
+    /// Returns the path that a URL of the scheme `file` without a host names (RFC 8089, section 2), with
+    /// its escapes decoded.
+    ///
+    /// # Errors
+    /// `UrlConversion` for another URL, and where the decoded bytes are not UTF-8; `Memory` where memory
+    /// ran out.
     pub fn as_path(&self, alloc: Global) -> Result<String, VerbatimUrlError>
         ensures { Answers (λ path. string_bytes path) told_url result (path_of self.now.url) }
     {
         path_of_url(alloc, &self.url)
     }
 
-    /// A copy, in memory of its own.
+    /// Returns a copy, in memory of its own.
     pub fn try_clone(&self, alloc: Global) -> Result<Self, AllocError>
         ensures { IfOk result (λ copy. copy ≡ self.now) }
     {
@@ -159,14 +176,17 @@ impl VerbatimUrl {
         })
     }
 
-    /// The URL as a JSON text: its print.
+    /// Returns the URL as a JSON text: its print.
     pub fn to_value(&self, alloc: Global) -> Result<Value, AllocError>
         ensures { IfOk result (λ value. find.as_str (view value) ≡ Some (serialize self.now.url)) }
     {
         Ok(Value::String(String::from_str(alloc, self.url.as_str())?))
     }
 
-    /// Reads a JSON text as `parse_url` does; another value is refused as `Shape`.
+    /// Reads a URL from a JSON text as `parse_url` does.
+    ///
+    /// # Errors
+    /// `Shape` where the value is not a text; `Text` with the error of `parse_url`, lack of memory too.
     pub fn from_value(
         alloc: Global,
         value: &Value,

@@ -45,7 +45,7 @@ const PATHS: [(&str, &str); 7] = [
     ("/a/../..", "path could not be normalized: /a/../.."),
 ];
 
-/// The normal path, or why there is none.
+/// Returns the normal path, or the print of the error.
 fn normal_path(alloc: Global, path: &str) -> Result<String, AllocError> {
     match normalize_absolute_path(alloc, path) {
         Ok(normal) => Ok(normal),
@@ -95,7 +95,7 @@ fn compares_urls(rt: HostRuntime) -> Result<(), Fail> {
     Ok(())
 }
 
-/// Whether a JSON value says this URL, with no text given.
+/// Returns whether a JSON value is this URL, with no text given.
 fn says(alloc: Global, value: &Value, url: &VerbatimUrl) -> bool {
     match VerbatimUrl::from_value(alloc, value) {
         Ok(again) => again == *url && again.given().is_none(),
@@ -127,7 +127,7 @@ fn gives_the_url(rt: HostRuntime) -> Result<(), Fail> {
     Ok(())
 }
 
-/// Whether the text is read in no directory; none for want of memory.
+/// Returns whether the text is read without a directory; `None` where memory ran out.
 fn reads<T: Pep508Url>(alloc: Global, text: &str, vars: &Vars) -> Option<bool> {
     match T::parse_url(alloc, text, vars, None) {
         Ok(_) => Some(true),

@@ -5,10 +5,10 @@ use pep508_url::Vars;
 use serde_json::{Error, Value};
 use std::alloc::{AllocError, Global};
 
-/// The directory in which relative paths stand.
+/// The directory of relative paths.
 pub const DIRECTORY: &str = "/w";
 
-/// The answer to a question, `no question` for another form.
+/// Returns the answer to a question; `no question` for another form.
 pub fn answer(alloc: Global, vars: &Vars, question: &str) -> Result<String, AllocError> {
     match Value::from_str(alloc, question) {
         Ok(question) => told(alloc, vars, &question),
@@ -16,7 +16,7 @@ pub fn answer(alloc: Global, vars: &Vars, question: &str) -> Result<String, Allo
     }
 }
 
-/// What is answered where a text is no JSON.
+/// Returns the answer where a text is not JSON.
 pub fn no_json(alloc: Global, answer: &str, error: &Error) -> Result<String, AllocError> {
     if error.is_memory() {
         Err(AllocError)
@@ -35,7 +35,7 @@ fn told(alloc: Global, vars: &Vars, question: &Value) -> Result<String, AllocErr
     )
 }
 
-/// The text at a place of a list, empty where there is none.
+/// Returns the text at a place of a list; empty where there is none.
 fn text_at(question: &Value, place: usize) -> &str {
     question.get(place).and_then(Value::as_str).unwrap_or("")
 }

@@ -1,4 +1,4 @@
-//! Answers on when requirements are meant.
+//! Answers on when requirements apply.
 
 ghost use Rattle.pep508_tree.specs.Meaning.{IsTree};
 
@@ -13,7 +13,7 @@ use pep508_url::VerbatimUrl;
 use std::alloc::{AllocError, Global};
 use std::fmt::Write;
 
-/// What requirements are evaluated for.
+/// The environment for which requirements are evaluated.
 const ENVIRONMENT: MarkerEnvironmentBuilder<'static> = MarkerEnvironmentBuilder {
     implementation_name: "cpython",
     implementation_version: "3.11.4",
@@ -35,7 +35,8 @@ fn environment(alloc: Global) -> Result<MarkerEnvironment, AllocError> {
     }
 }
 
-/// Whether a requirement is meant with an extra in the environment, with the warnings of that, and in any.
+/// Returns whether a requirement applies with an extra in the environment, with the warnings of that, and
+/// in any.
 pub fn of_name(
     alloc: Global,
     interner: &Interner,
@@ -90,7 +91,8 @@ fn listed(
     Ok(text)
 }
 
-/// One of two answers, which are the same, and that in any environment.
+/// Returns the answer on which two calls agree, and that for any environment; `two answers` where they
+/// disagree.
 fn told(
     alloc: Global,
     is_meant: bool,
@@ -112,7 +114,7 @@ fn push_warning(
     write!(text, " / {kind:?}: {warning}")
 }
 
-/// Whether a requirement without a name is meant with an extra in the environment, and in any.
+/// Returns whether a requirement without a name applies with an extra in the environment, and in any.
 pub fn without_name(
     alloc: Global,
     interner: &Interner,
@@ -154,7 +156,7 @@ fn unnamed_evaluated(
     told(alloc, is_there, holds, is_anywhere)
 }
 
-/// The print of a requirement that asks for an extra too.
+/// Returns the print of a requirement that is restricted to an extra too.
 pub fn with_name(
     alloc: Global,
     interner: &mut Interner,

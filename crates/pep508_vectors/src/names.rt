@@ -10,7 +10,7 @@ use std::cmp::Ordering;
 use std::fmt::Debug;
 use std::hash::{DefaultHasher, Hash, Hasher};
 
-/// The answer to a question on names, or to one of another kind.
+/// Returns the answer to a question on names, or to one of another kind.
 pub fn answer(
     alloc: Global,
     vars: &Vars,
@@ -35,7 +35,7 @@ fn of_package(alloc: Global, kind: &str, text: &str, other: &str) -> Result<Stri
     }
 }
 
-/// What is answered where a text is no name.
+/// Returns the answer where a text is not a name.
 pub fn refused(alloc: Global, error: &InvalidNameError) -> Result<String, AllocError> {
     match error {
         InvalidNameError::Memory => Err(AllocError),
@@ -51,7 +51,7 @@ fn told(alloc: Global, kind: &str, name: &PackageName, other: &str) -> Result<St
     }
 }
 
-/// The order of two names of packages, and whether their hashes are one.
+/// Returns the order of two names of packages, and whether their hashes are equal.
 fn packages(alloc: Global, left: &PackageName, right: &str) -> Result<String, AllocError> {
     match PackageName::from_str(alloc, right) {
         Ok(right) => compared(alloc, left, &right),
@@ -59,7 +59,7 @@ fn packages(alloc: Global, left: &PackageName, right: &str) -> Result<String, Al
     }
 }
 
-/// The order of two names of extras, and whether their hashes are one.
+/// Returns the order of two names of extras, and whether their hashes are equal.
 fn extras(alloc: Global, left: &str, right: &str) -> Result<String, AllocError> {
     match ExtraName::from_str(alloc, left) {
         Ok(left) => beside(alloc, &left, right),
@@ -74,7 +74,7 @@ fn beside(alloc: Global, left: &ExtraName, right: &str) -> Result<String, AllocE
     }
 }
 
-/// The order of two values, and whether their hashes are one.
+/// Returns the order of two values, and whether their hashes are equal.
 pub fn compared<T: Ord + Hash>(alloc: Global, left: &T, right: &T) -> Result<String, AllocError> {
     let sign = sign(left.cmp(right));
     let is_one = hash_of(left) == hash_of(right);
@@ -95,7 +95,7 @@ fn hash_of<T: Hash>(value: &T) -> u64 {
     hasher.finish()
 }
 
-/// The name of a package: as programmers see it, as a value, and whether its copy is equal.
+/// Returns the name of a package: as programmers see it, as a value, and whether its copy is equal.
 fn package(alloc: Global, text: &str) -> Result<String, AllocError> {
     match PackageName::new(alloc, String::from_str(alloc, text)?) {
         Ok(name) => package_told(alloc, &name),
@@ -109,7 +109,7 @@ fn package_told(alloc: Global, name: &PackageName) -> Result<String, AllocError>
     shown(alloc, name, &value, is_same)
 }
 
-/// The name of an extra, likewise.
+/// Returns the name of an extra: as programmers see it, as a value, and whether its copy is equal.
 fn extra(alloc: Global, text: &str) -> Result<String, AllocError> {
     match ExtraName::new(alloc, String::from_str(alloc, text)?) {
         Ok(name) => extra_told(alloc, &name),
@@ -132,7 +132,7 @@ fn shown<T: Debug>(
     format!(in alloc; "{name:?}, value {value}, equal {is_same}")
 }
 
-/// The text that is no name, as a copy of the error keeps it, and whether `is_name` takes it.
+/// Returns the text that is not a name, as a copy of the error keeps it, and whether `is_name` accepts it.
 pub fn no_name(alloc: Global, error: &InvalidNameError) -> Result<String, AllocError> {
     let copy = error.try_clone(alloc)?;
     kept(alloc, &copy)
@@ -150,7 +150,7 @@ fn text_kept(alloc: Global, text: &str) -> Result<String, AllocError> {
     format!(in alloc; "refused: {text}, a name {is_name}")
 }
 
-/// What the errors say of want of memory, and the text that the one of a name keeps.
+/// Returns the prints of the errors of memory, and the text that the one of a name keeps.
 fn want_of_memory(alloc: Global) -> Result<String, AllocError> {
     let (name, environment) = (InvalidNameError::Memory, EnvironmentError::Memory);
     memory_shown(alloc, &name, &environment)

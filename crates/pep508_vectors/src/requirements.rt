@@ -18,7 +18,7 @@ use std::alloc::{AllocError, Global};
 use std::fmt::Write;
 use url::Url;
 
-/// The answer to a question on requirements, or to one of another kind.
+/// Returns the answer to a question on requirements, or to one of another kind.
 pub fn answer(
     alloc: Global,
     vars: &Vars,
@@ -57,7 +57,7 @@ fn of_text(
     }
 }
 
-/// The requirement of a text, in the directory or in none.
+/// Reads the requirement of a text, in the directory or in none.
 fn read(
     alloc: Global,
     interner: &mut Interner,
@@ -75,7 +75,7 @@ fn read(
     }
 }
 
-/// What is answered where a text is no requirement.
+/// Returns the answer where a text is not a requirement.
 pub fn refused(
     alloc: Global,
     kind: &str,
@@ -92,7 +92,7 @@ pub fn refused(
     }
 }
 
-/// Where and how long the part at fault is, and the message.
+/// Returns where and how long the part at fault is, and the message.
 fn spanned(alloc: Global, error: &Pep508Error<VerbatimUrl>) -> Result<String, AllocError> {
     let (start, len, message) = (error.start(), error.len(), error.message());
     format!(in alloc; "refused at {start}, {len}: {message}")
@@ -163,7 +163,7 @@ fn push_url(text: &mut String, url: &VerbatimUrl) -> Result<(), AllocError> {
     write!(text, " @ {url} given {given}")
 }
 
-/// When a requirement is meant, where that isn't always.
+/// Returns when a requirement applies, where that isn't always.
 pub fn when(marker: MarkerTree) -> &'static str {
     if marker.is_true() {
         ""
@@ -174,7 +174,7 @@ pub fn when(marker: MarkerTree) -> &'static str {
     }
 }
 
-/// What a copy of the requirement holds, and whether it is equal.
+/// Returns the contents of a requirement's copy, and whether it is equal.
 fn copied(alloc: Global, read: &Requirement<VerbatimUrl>) -> Result<String, AllocError> {
     let copy = read.try_clone(alloc)?;
     shown(alloc, &copy, copy == *read)
@@ -190,7 +190,7 @@ fn shown(
     format!(in alloc; "{name}, {count} extras, {wanted}, always {is_always}, equal {is_same}")
 }
 
-/// The print of what is wanted.
+/// Returns the print of the specifiers or the URL.
 fn wanted(alloc: Global, read: &Requirement<VerbatimUrl>) -> Result<String, AllocError> {
     match &read.version_or_url {
         None => String::from_str(alloc, "any version"),
@@ -198,7 +198,7 @@ fn wanted(alloc: Global, read: &Requirement<VerbatimUrl>) -> Result<String, Allo
     }
 }
 
-/// What a requirement prints, and whether its JSON value is read as an equal one.
+/// Returns the print of a requirement, and whether its JSON value is read as an equal one.
 fn printed(
     alloc: Global,
     vars: &Vars,
@@ -213,7 +213,7 @@ fn printed(
     format!(in alloc; "{shown} reads back {again}")
 }
 
-/// As what a JSON value is read, beside a requirement.
+/// Returns what a JSON value is read as, compared with a requirement.
 fn again(
     alloc: Global,
     vars: &Vars,
@@ -252,7 +252,7 @@ fn not_read(error: &FromValueError<Pep508Error<VerbatimUrl>>) -> Result<&'static
     }
 }
 
-/// The requirement of a JSON value, without its URL and in a workspace.
+/// Returns the requirement of a JSON value, without its URL and in a workspace.
 pub fn of_value(alloc: Global, vars: &Vars, value: &Value) -> Result<String, AllocError> {
     let mut interner = Interner::new(alloc);
     match Requirement::from_value(alloc, &mut interner, vars, value) {
@@ -286,7 +286,7 @@ pub fn is_in_workspace(origin: &Option<RequirementOrigin>) -> bool {
     matches!(origin, Some(RequirementOrigin::Workspace))
 }
 
-/// The URL of a requirement whose URLs are those of the crate `url`.
+/// Returns the URL of a requirement whose URLs are those of the crate `url`.
 fn plain(alloc: Global, vars: &Vars, text: &str) -> Result<String, AllocError> {
     let mut interner = Interner::new(alloc);
     match Requirement::<Url>::parse(alloc, &mut interner, vars, text, Some(DIRECTORY)) {
@@ -310,7 +310,7 @@ fn plain_refused(alloc: Global, error: &Pep508Error<Url>) -> Result<String, Allo
     }
 }
 
-/// How many extras stand at the front, and whether their copy is equal.
+/// Returns the number of extras at the front, and whether their copy is equal.
 fn extras(alloc: Global, text: &str) -> Result<String, AllocError> {
     match Extras::parse::<VerbatimUrl>(alloc, text) {
         Ok(extras) => extras_told(alloc, &extras),
@@ -324,7 +324,7 @@ fn extras_told(alloc: Global, extras: &Extras) -> Result<String, AllocError> {
     format!(in alloc; "{count} extras, equal {is_same}")
 }
 
-/// What the error of a reader of requirements says of want of memory, and the text that it keeps.
+/// Returns the print of the error of memory of a reader of requirements, and the text that it keeps.
 fn error_of_memory(alloc: Global) -> Result<String, AllocError> {
     memory_shown(alloc, &Pep508Error::memory(alloc))
 }

@@ -17,7 +17,7 @@ use serde_json::Value;
 use std::alloc::{AllocError, Global};
 use std::fmt::Write;
 
-/// The answer to a question on a requirement without a name; `no question` for another kind.
+/// Returns the answer to a question on a requirement without a name; `no question` for another kind.
 pub fn answer(
     alloc: Global,
     vars: &Vars,
@@ -47,7 +47,7 @@ fn of_text(
     }
 }
 
-/// The requirement of a text, in the directory or in none.
+/// Reads the requirement of a text, in the directory or in none.
 fn read(
     alloc: Global,
     interner: &mut Interner,
@@ -94,7 +94,7 @@ fn push_parts(text: &mut String, read: &UnnamedRequirement<VerbatimUrl>) -> Resu
     write!(text, " given {given}{when}")
 }
 
-/// What a requirement's copy holds, and whether it is equal.
+/// Returns the contents of a requirement's copy, and whether it is equal.
 fn copied(alloc: Global, read: &UnnamedRequirement<VerbatimUrl>) -> Result<String, AllocError> {
     let copy = read.try_clone(alloc)?;
     let is_same = copy == *read && copy.url.given() == read.url.given();
@@ -115,7 +115,7 @@ fn placed(
     format!(in alloc; "given {given}, {count} extras, equal {is_same}, in a workspace {is_placed}")
 }
 
-/// What a requirement prints, which is the text of its JSON value too.
+/// Returns the print of a requirement, which is the text of its JSON value too.
 fn printed(
     alloc: Global,
     interner: &Interner,

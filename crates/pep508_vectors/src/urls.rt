@@ -9,7 +9,7 @@ use pep508_url::{
 use std::alloc::{AllocError, Global};
 use url::{ParseError, Url};
 
-/// The answer to a question on URLs, or to one of another kind.
+/// Returns the answer to a question on URLs, or to one of another kind.
 pub fn answer(
     alloc: Global,
     vars: &Vars,
@@ -30,7 +30,7 @@ pub fn answer(
     }
 }
 
-/// The URL of a text or of a path, and the text that it was given as.
+/// Returns the URL of a text or of a path, and the text that it was given as.
 fn of_text(alloc: Global, vars: &Vars, kind: &str, text: &str) -> Result<String, AllocError> {
     match read(alloc, vars, kind, text) {
         Ok(url) => told(alloc, &url),
@@ -66,7 +66,7 @@ fn refused(alloc: Global, error: &VerbatimUrlError) -> Result<String, AllocError
     }
 }
 
-/// The URL of a path in a directory, or of a text, as a requirement without a name asks for it.
+/// Returns the URL of a path in a directory, or of a text, as a requirement without a name reads it.
 fn unnamed(alloc: Global, kind: &str, text: &str) -> Result<String, AllocError> {
     match read_unnamed(alloc, kind, text) {
         Ok(url) => given(alloc, &url),
@@ -87,7 +87,7 @@ fn given<T: UnnamedRequirementUrl>(alloc: Global, url: &T) -> Result<String, All
     format!(in alloc; "{url} given {given}")
 }
 
-/// The URL that the crate `url` reads, as one that is given as no text.
+/// Returns the URL that the crate `url` reads, without a given text.
 fn of_url(alloc: Global, text: &str) -> Result<String, AllocError> {
     match Url::parse(alloc, text) {
         Ok(url) => given(alloc, &VerbatimUrl::from_url(url)),
@@ -96,7 +96,7 @@ fn of_url(alloc: Global, text: &str) -> Result<String, AllocError> {
     }
 }
 
-/// The path of a URL.
+/// Returns the path of a URL.
 fn as_path(alloc: Global, text: &str) -> Result<String, AllocError> {
     match VerbatimUrl::parse_url(alloc, text) {
         Ok(url) => path_of(alloc, &url),

@@ -9,7 +9,7 @@ use read_outcome::FromValueError;
 use serde_json::{Error, Value};
 use std::alloc::{AllocError, Global};
 
-/// The answer to a question on JSON values, or to one of another kind.
+/// Returns the answer to a question on JSON values, or to one of another kind.
 pub fn answer(
     alloc: Global,
     vars: &Vars,
@@ -52,7 +52,7 @@ fn told(alloc: Global, vars: &Vars, kind: &str, value: &Value) -> Result<String,
     }
 }
 
-/// The name of a package that a JSON value is.
+/// Returns the name of a package that a JSON value is.
 fn package(alloc: Global, value: &Value) -> Result<String, AllocError> {
     match PackageName::from_value(alloc, value) {
         Ok(name) => String::from_str(alloc, name.as_str()),
@@ -60,7 +60,7 @@ fn package(alloc: Global, value: &Value) -> Result<String, AllocError> {
     }
 }
 
-/// The name of an extra that a JSON value is.
+/// Returns the name of an extra that a JSON value is.
 fn extra(alloc: Global, value: &Value) -> Result<String, AllocError> {
     match ExtraName::from_value(alloc, value) {
         Ok(name) => name.to_string(alloc),
@@ -75,7 +75,7 @@ fn no_name(alloc: Global, error: &FromValueError<InvalidNameError>) -> Result<St
     }
 }
 
-/// An origin's value and its path.
+/// Returns an origin's value and its path.
 fn origin(alloc: Global, value: &Value) -> Result<String, AllocError> {
     match RequirementOrigin::from_value(alloc, value) {
         Ok(origin) => origin_told(alloc, &origin),
@@ -96,7 +96,7 @@ fn refused(alloc: Global, error: &FromValueError<InvalidNameError>) -> Result<St
     }
 }
 
-/// What is wrong with an origin's value.
+/// Returns what is wrong with an origin's value.
 fn origin_fault(alloc: Global, value: &Value) -> Result<String, AllocError> {
     match RequirementOrigin::from_value(alloc, value) {
         Ok(_) => String::from_str(alloc, "read"),
@@ -114,7 +114,7 @@ fn no_origin(
     }
 }
 
-/// The full version of the interpreter, or what is wrong with the environment.
+/// Returns the full version of the interpreter, or what is wrong with the environment.
 fn environment(alloc: Global, value: &Value) -> Result<String, AllocError> {
     match MarkerEnvironment::from_value(alloc, value) {
         Ok(environment) => environment.python_full_version().version.to_string(alloc),
@@ -129,7 +129,8 @@ fn no_environment(alloc: Global, error: &EnvironmentError) -> Result<String, All
     }
 }
 
-/// The order of two origins, whether their hashes are one, and whether the first one's copy is equal.
+/// Returns the order of two origins, whether their hashes are equal, and whether the first one's copy is
+/// equal.
 fn origins(alloc: Global, left: &str, right: &str) -> Result<String, AllocError> {
     match Value::from_str(alloc, left) {
         Ok(left) => left_read(alloc, &left, right),

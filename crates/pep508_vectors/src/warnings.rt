@@ -7,7 +7,7 @@ use pep508_tree::Interner;
 use pep508_url::{Vars, VerbatimUrl};
 use std::alloc::{AllocError, Global};
 
-/// Keeps the kinds and the texts of warnings.
+/// A reporter that keeps the kinds and the texts of warnings.
 #[derive(Drop)]
 struct Kept {
     text: String,
@@ -39,7 +39,7 @@ fn name_of(kind: MarkerWarningKind) -> &'static str {
 
 type Read = Result<Requirement<VerbatimUrl>, Pep508Error<VerbatimUrl>>;
 
-/// The warnings of a requirement's marker, and how many conjunctions reading it counts.
+/// Returns the warnings of a requirement's marker, and how many conjunctions reading it counts.
 pub fn warnings(alloc: Global, vars: &Vars, text: &str) -> Result<String, AllocError> {
     let mut interner = Interner::new(alloc);
     let mut kept = Kept {

@@ -1,4 +1,4 @@
--- A tree read off its views: which subtree decides, which variables the subtrees ask for, and how edges lie.
+-- A tree read off its views: which subtree decides, which variables the subtrees test, and how edges lie.
 use Rattle.std.specs.Prelude.{◌≡◌, ◌<◌, true, false, cond, List, [], ◌∷◌, map}
 use Rattle.pep440_version.specs.Order.{version_cmp}
 use Rattle.pep508_diagram.specs.declared.variable.Flag.{Flag}
@@ -17,7 +17,7 @@ use Rattle.pep508_view.specs.Reading.{JustOne, SpanAll, LeadApart}
 abbrev pub HoldsAs : List NodeRecord → Valuation → Tree → Tree → Type 0
 HoldsAs nodes v tree subtree = holds nodes tree v ≡ holds nodes subtree v
 
--- the tree holds where the subtree does that stands for the flag's truth
+-- the tree holds where the subtree for the flag's truth does
 abbrev pub IsDecidedBy : List NodeRecord → Tree → Flag → Tree → Tree → Type 0
 IsDecidedBy nodes tree flag set unset = (v : Valuation) → HoldsAs nodes v tree (cond (v.flag flag) set unset)
 
@@ -46,14 +46,14 @@ subtrees (kind.In view) = view.set ∷ view.unset ∷ []
 subtrees (kind.Contains view) = view.set ∷ view.unset ∷ []
 subtrees (kind.Extra view) = view.set ∷ view.unset ∷ []
 
--- a tree that was made before another one, and asks only for variables behind the first of that one
+-- a tree that was made before another one, and tests only variables after the first of that one
 pub record IsBelow (nodes : List NodeRecord) (tree subtree : Tree) : Type 0 where
   pub made : IsTree nodes subtree
   pub falls : subtree.place < tree.place
   pub above : Above nodes (first_place nodes tree) subtree
 
--- edges rise side by side over all points, and what stands on the two sides of a boundary or for the two
--- truths of a flag differs
+-- edges cover all points without overlap in rising order, and the children on the two sides of an endpoint
+-- or for the two truths of a flag differ
 abbrev pub IsLaidOut : MarkerTreeKind → Type 0
 IsLaidOut kind.True = Unit {0}
 IsLaidOut kind.False = Unit {0}

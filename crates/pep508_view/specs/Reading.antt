@@ -37,7 +37,7 @@ module _ {T : Type 0} (cmp : T → T → Ordering) where
   abbrev pub edge_holds : EdgeOf T → Point T → Bool
   edge_holds edge p = is_within cmp (edge.lower, edge.upper) p
 
-  -- just one of the edges holds the point, and what it leads to meets the condition
+  -- just one of the edges holds the point, and its subtree meets the condition
   pub record JustOne (edges : List (EdgeOf T)) (p : Point T) (P : Tree → Type 0) : Type 0 where
     pub before : List (EdgeOf T)
     pub edge : EdgeOf T

@@ -1,4 +1,4 @@
--- Equality of views is one.
+-- Equality of views is an equivalence.
 use Rattle.std.specs.Cmp.{IsEquivalence, on_equiv, and_equiv, nat_eq_equiv, bool_eq_equiv}
 use Rattle.pep508_view.specs.Sameness.{tree_eq}
 

@@ -1,4 +1,4 @@
--- What a view shows: the node at a tree's root, with the tree's sign on its children.
+-- The content of a view: the node at a tree's root, with the tree's negation applied to its children.
 use Rattle.std.specs.Prelude.{◌≡◌, ℕ, List, [], Option, Some, None, MatchOption}
 use Rattle.pep440_text.specs.Record.{VersionRecord}
 use Rattle.pep508_marker.specs.declared.keys.MarkerValueVersion.{MarkerValueVersion}
@@ -81,7 +81,7 @@ abbrev pub constant_of : MarkerTreeKind → Tree
 constant_of kind.True = always
 constant_of _ = never
 
--- the kind of a tree: the constant that it is, or a view of it that shows what stands at its root
+-- the kind of a tree: the constant that it is, or a view of it that shows its root
 abbrev pub IsKind : List NodeRecord → Tree → MarkerTreeKind → Type 0
 IsKind nodes tree kind =
     MatchOption (viewed kind) (tree ≡ constant_of kind)

@@ -1,4 +1,4 @@
-//! The edges of a node, one after another.
+//! The edges of a node, as iterators.
 
 ghost use Rattle.std.specs.Prelude.{◌≡◌, ◌<◌, ◌+◌, ◌^◌, length, ◌∷◌, Some};
 ghost use Rattle.std.specs.Iterator.{at_most};
@@ -15,10 +15,10 @@ use pep508_tree::MarkerTree;
 use std::marker::Model;
 use std::ops::Bound;
 
-/// Where the next edge begins, and what stands there.
+/// The lower bound of the next edge, and its subtree.
 type Start<'a, T> = Option<(Bound<&'a T>, MarkerTree)>;
 
-/// The edges of a node that are left, upwards. It takes no memory.
+/// An iterator over the remaining edges of a node, upwards. It takes no memory.
 #[derive(Drop)]
 pub struct Edges<'a, T> {
     start: Start<'a, T>,
@@ -37,14 +37,14 @@ impl<'a, T> Model for Edges<'a, T> {
     ghost invariant = { λ iter. length iter.later.now + 1 < 2 ^ 64 };
 }
 
-/// The tree, negated where the flag is set.
+/// Returns the tree, negated where `negated`.
 fn signed(tree: MarkerTree, negated: bool) -> MarkerTree
     ensures { result ≡ turned negated tree }
 {
     if negated { tree.negate() } else { tree }
 }
 
-/// The upper bound of an edge that has begun, where the next one begins, and the branches behind it.
+/// Returns the upper bound of an edge that has begun, the start of the next one, and the branches after it.
 fn split_upper<T>(
     later: &[Branch<T, MarkerTree>],
     negated: bool,
@@ -67,7 +67,7 @@ fn split_upper<T>(
 }
 
 impl<'a, T> Edges<'a, T> {
-    /// The edges of a first tree and of branches, all negated where the flag is set.
+    /// Returns the edges of a first tree and of branches, all negated where `negated`.
     #[tactic(auto, using(crate::proofs::Counting::count_edges))]
     pub(crate) fn new(
         first: MarkerTree,
@@ -115,7 +115,8 @@ impl<'a, T> Iterator for Edges<'a, T> {
     }
 }
 
-/// The edges of a node of texts that are left, upwards by the texts' bytes. It takes no memory.
+/// An iterator over the remaining edges of a node of texts, upwards by the texts' bytes. It takes no
+/// memory.
 #[derive(Drop)]
 pub struct TextEdges<'a> {
     edges: Edges<'a, MarkerText>,
@@ -130,7 +131,7 @@ impl<'a> Model for TextEdges<'a> {
     ghost view = { λ iter. iter.edges };
 }
 
-/// The bound as one of a `&str`.
+/// Returns the bound as one of a `&str`.
 fn text_bound(bound: Bound<&MarkerText>) -> Bound<&str>
     ensures { bound_map (λ v. v.now) result ≡ bound_map (λ v. v.now) bound.entry }
 {

@@ -1,4 +1,4 @@
-//! Views of trees that first ask for an extra.
+//! Views of trees that first test an extra.
 
 ghost use Rattle.std.specs.Prelude.{◌≡◌, [], ◌∷◌, true, false, cond};
 ghost use Rattle.std.specs.Ordering.{on};
@@ -9,17 +9,17 @@ ghost use Rattle.pep508_view.specs.SamenessLaws.{tree_eq_equiv};
 use pep508_name::ExtraName;
 use pep508_tree::MarkerTree;
 
-/// An extra that is asked for, lent.
+/// An extra that a tree tests, borrowed.
 #[derive(Clone, Copy)]
 pub enum MarkerExtra<'a> {
     /// The extra of this name.
     Extra(&'a ExtraName),
-    /// A text that is no name, so that no extra has it.
+    /// A text that is not a name, so that no extra has it.
     Arbitrary(&'a str),
 }
 
-/// A view of a tree in which is asked first whether an extra is wanted, as in `extra == 'dev'`. It borrows
-/// the interner, takes no memory, and equals the views of the same tree.
+/// A view of a tree that first tests whether an extra is requested, as in `extra == 'dev'`. It borrows the
+/// interner, takes no memory, and equals the views of the same tree.
 #[derive(Clone, Copy)]
 pub struct ExtraMarkerTree<'a> {
     tree: MarkerTree,
@@ -59,21 +59,21 @@ impl<'a> ExtraMarkerTree<'a> {
         }
     }
 
-    /// The extra.
+    /// Returns the extra.
     pub fn name(&self) -> MarkerExtra<'a>
         ensures { result ≡ self.now.extra }
     {
         self.extra
     }
 
-    /// The subtree where it is wanted, and where it is not, in this order.
+    /// Returns the subtree where the extra is requested, and where it is not, in this order.
     pub fn children(&self) -> [(bool, MarkerTree); 2]
         ensures { result ≡ (true, self.now.set) ∷ (false, self.now.unset) ∷ [] }
     {
         [(true, self.set), (false, self.unset)]
     }
 
-    /// The subtree where it is wanted, or where it is not.
+    /// Returns the subtree where the extra is requested, or where it is not.
     pub fn edge(&self, value: bool) -> MarkerTree
         ensures { result ≡ cond value self.now.set self.now.unset }
     {

@@ -1,4 +1,4 @@
-//! Views of trees that first ask whether a key's text stands in another text.
+//! Views of trees that first test whether a key's text occurs in another text.
 
 ghost use Rattle.std.specs.Prelude.{◌≡◌, [], ◌∷◌, true, false, cond};
 ghost use Rattle.std.specs.Ordering.{on};
@@ -10,8 +10,8 @@ use pep508_diagram::MarkerText;
 use pep508_marker::MarkerValueString;
 use pep508_tree::MarkerTree;
 
-/// A view of a tree in which is asked first whether a key's text stands in another text, as in
-/// `os_name in 'posix'`. It borrows the interner, takes no memory, and equals the views of the same tree.
+/// A view of a tree that first tests whether a key's text occurs in another text, as in `os_name in
+/// 'posix'`. It borrows the interner, takes no memory, and equals the views of the same tree.
 #[derive(Clone, Copy)]
 pub struct InMarkerTree<'a> {
     tree: MarkerTree,
@@ -54,28 +54,28 @@ impl<'a> InMarkerTree<'a> {
         }
     }
 
-    /// The key.
+    /// Returns the key.
     pub fn key(&self) -> MarkerValueString
         ensures { result ≡ self.now.key }
     {
         self.key
     }
 
-    /// The text in which the key's text is to stand.
+    /// Returns the text in which the key's text is searched for.
     pub fn value(&self) -> &'a str
         ensures { result.now ≡ self.now.text.now }
     {
         self.text.as_str()
     }
 
-    /// The subtree where that is so, and where it is not, in this order.
+    /// Returns the subtree where the key's text occurs, and where it does not, in this order.
     pub fn children(&self) -> [(bool, MarkerTree); 2]
         ensures { result ≡ (true, self.now.set) ∷ (false, self.now.unset) ∷ [] }
     {
         [(true, self.set), (false, self.unset)]
     }
 
-    /// The subtree where that is so, or where it is not.
+    /// Returns the subtree where the key's text occurs, or where it does not.
     pub fn edge(&self, value: bool) -> MarkerTree
         ensures { result ≡ cond value self.now.set self.now.unset }
     {

@@ -1,4 +1,7 @@
-//! What is asked first in a marker tree.
+//! The first test of a marker tree.
+//!
+//! `kind` is a method of a trait, as on a type of another crate it has to be; the trait's ghost member
+//! `named` says which tree a value names.
 
 ghost use Rattle.std.specs.Prelude.{◌≡◌, IfSome, Some};
 ghost use Rattle.pep508_tree.specs.Tree.{Tree};
@@ -14,8 +17,8 @@ use crate::version_view::VersionMarkerTree;
 use pep508_diagram::Flag;
 use pep508_tree::{Interner, MarkerTree, TreeNode};
 
-/// What is asked first in a marker tree, and which subtree stands for each answer. Where nothing is asked,
-/// the tree is constant.
+/// The first test of a marker tree, and the subtree for each result. Where nothing is tested, the tree is
+/// constant.
 #[derive(Clone, Copy, PartialEq, Eq)]
 pub enum MarkerTreeKind<'a> {
     /// The tree always holds.
@@ -26,15 +29,15 @@ pub enum MarkerTreeKind<'a> {
     Version(VersionMarkerTree<'a>),
     /// Between which texts a key's text lies.
     String(StringMarkerTree<'a>),
-    /// Whether a key's text stands in a text.
+    /// Whether a key's text occurs in a text.
     In(InMarkerTree<'a>),
-    /// Whether a text stands in a key's text.
+    /// Whether a text occurs in a key's text.
     Contains(ContainsMarkerTree<'a>),
-    /// Whether an extra is wanted.
+    /// Whether an extra is requested.
     Extra(ExtraMarkerTree<'a>),
 }
 
-/// The kind of a tree that asks first for a flag.
+/// Returns the kind of a tree that first tests a flag.
 fn flagged<'a>(
     tree: MarkerTree,
     flag: &'a Flag,
@@ -64,10 +67,10 @@ fn flagged<'a>(
 pub trait MarkerTreeView {
     ghost use Rattle.pep508_tree.specs.Tree.{Tree};
 
-    /// The tree that a value names.
+    /// The tree that a value is.
     ghost named: { Self → Tree };
 
-    /// What is asked first in the tree, and which subtree stands for each answer, lent by the interner that
+    /// Returns the first test of the tree, and the subtree for each result, borrowed from the interner that
     /// the tree was made with. Takes no memory and constant time.
     fn kind<'a>(self, interner: &'a Interner) -> MarkerTreeKind<'a>
         requires { IsTree interner.now.nodes (named self) }

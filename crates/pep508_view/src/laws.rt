@@ -18,8 +18,8 @@ use crate::kind::MarkerTreeView;
 use pep508_tree::{Interner, MarkerTree};
 use pep508_tree_laws::constants_are_named;
 
-/// A tree's truth is read off its views, one variable at a time: just one edge holds the point of the
-/// variable, and the tree holds where the subtree of that edge does.
+/// A tree's truth can be read off its views, one variable at a time: just one edge contains the point of
+/// the variable, and the tree holds where the subtree of that edge does.
 pub fn truth_is_read_off(tree: MarkerTree, interner: &Interner)
     requires { IsTree interner.now.nodes tree }
     ensures { (kind : MarkerTreeKind) → IsKind interner.now.nodes tree kind →
@@ -29,7 +29,7 @@ pub fn truth_is_read_off(tree: MarkerTree, interner: &Interner)
     let _ = tree.kind(interner);
 }
 
-/// A tree's diagram is what its view shows: a leaf, or the questions of the node with the diagrams of the
+/// A tree's diagram can be read off its view: a leaf, or the questions of the node with the diagrams of the
 /// subtrees.
 pub fn a_view_shows_the_diagram(tree: MarkerTree, interner: &Interner)
     requires { IsTree interner.now.nodes tree }
@@ -39,8 +39,8 @@ pub fn a_view_shows_the_diagram(tree: MarkerTree, interner: &Interner)
     interner.are_sound();
 }
 
-/// What a view leads to asks only for variables behind the one that is asked first, and was made before the
-/// tree: so each walk over views ends.
+/// The subtrees of a view test only later variables than the view does, and were made before the tree: so
+/// each walk over views ends.
 pub fn subtrees_ask_later_variables(tree: MarkerTree, interner: &Interner)
     requires { IsTree interner.now.nodes tree }
     ensures { (kind : MarkerTreeKind) → IsKind interner.now.nodes tree kind →
@@ -49,8 +49,8 @@ pub fn subtrees_ask_later_variables(tree: MarkerTree, interner: &Interner)
     let _ = tree.kind(interner);
 }
 
-/// The edges of a view rise, each from the place on where the one before it ends; the first begins below all
-/// and the last has no end. Neighbouring subtrees differ.
+/// The edges of a view rise, each from the place on where the one before it ends; the first has no lower
+/// bound and the last no upper one. Neighbouring subtrees differ.
 pub fn edges_lie_side_by_side(tree: MarkerTree, interner: &Interner)
     requires { IsTree interner.now.nodes tree }
     ensures { (kind : MarkerTreeKind) → IsKind interner.now.nodes tree kind → IsLaidOut kind }
@@ -58,7 +58,7 @@ pub fn edges_lie_side_by_side(tree: MarkerTree, interner: &Interner)
     let _ = tree.kind(interner);
 }
 
-/// Between rising boundaries each point lies in just one edge, and that leads to what stands at the point.
+/// Between rising endpoints each point lies in just one edge, and its subtree is the child at the point.
 pub fn one_edge_holds<T: Ord>()
     ensures { (first : Tree) (later : List (Branch T Tree)) (p : Point T) → RisingBranches T.cmp later →
         JustOne T.cmp (edges first later) p (λ tree. tree ≡ branch_at T.cmp first later p) }

@@ -1,4 +1,4 @@
-//! Views of trees that first ask for a text.
+//! Views of trees that first test a text.
 
 ghost use Rattle.std.specs.Prelude.{◌≡◌, ℕ, ◌<◌, ◌^◌, List, length};
 ghost use Rattle.std.specs.Map.Iter.{ShowsInOrder};
@@ -14,8 +14,8 @@ use pep508_diagram::{Branch, MarkerText};
 use pep508_marker::MarkerValueString;
 use pep508_tree::MarkerTree;
 
-/// A view of a tree in which a text is asked for first. It borrows the interner, takes no memory, and equals
-/// the views of the same tree.
+/// A view of a tree that first tests a key's text. It borrows the interner, takes no memory, and equals the
+/// views of the same tree.
 #[derive(Clone, Copy)]
 pub struct StringMarkerTree<'a> {
     tree: MarkerTree,
@@ -64,15 +64,15 @@ impl<'a> StringMarkerTree<'a> {
         }
     }
 
-    /// The key; the old names of PEP 345 are keys of their own.
+    /// Returns the key; the old names of PEP 345 are keys of their own.
     pub fn key(&self) -> MarkerValueString
         ensures { result ≡ self.now.key }
     {
         self.key
     }
 
-    /// The subtrees with the texts between which each stands, upwards by the texts' bytes. Takes no memory;
-    /// each step takes constant time.
+    /// Returns an iterator over the subtrees with the texts that bound each, upwards by the texts' bytes.
+    /// Takes no memory; each step takes constant time.
     pub fn children(&self) -> TextEdges<'a>
         ensures edges { result ≡ text_edges (text_node self.now) }
         ensures runs { ShowsInOrder (lent_edge {T = List ℕ}) }

@@ -1,4 +1,4 @@
-//! Views of trees that first ask for a version.
+//! Views of trees that first test a version.
 
 ghost use Rattle.std.specs.Prelude.{◌≡◌, ◌<◌, ◌^◌, length};
 ghost use Rattle.std.specs.Map.Iter.{ShowsInOrder};
@@ -16,8 +16,8 @@ use pep508_diagram::{Branch, VersionVariable};
 use pep508_marker::MarkerValueVersion;
 use pep508_tree::MarkerTree;
 
-/// A view of a tree in which a version is asked for first. It borrows the interner, takes no memory, and
-/// equals the views of the same tree.
+/// A view of a tree that first tests a key's version. It borrows the interner, takes no memory, and equals
+/// the views of the same tree.
 #[derive(Clone, Copy)]
 pub struct VersionMarkerTree<'a> {
     tree: MarkerTree,
@@ -66,8 +66,8 @@ impl<'a> VersionMarkerTree<'a> {
         }
     }
 
-    /// The key: `implementation_version` or `python_full_version`. What a marker asks of `python_version` is
-    /// asked of the full version.
+    /// Returns the key: `implementation_version` or `python_full_version`. Comparisons of `python_version`
+    /// are made of the full version.
     pub fn key(&self) -> MarkerValueVersion
         ensures { result ≡ key_of self.now.variable }
     {
@@ -77,8 +77,8 @@ impl<'a> VersionMarkerTree<'a> {
         }
     }
 
-    /// The subtrees with the versions between which each stands, upwards. Takes no memory; each step takes
-    /// constant time.
+    /// Returns an iterator over the subtrees with the versions that bound each, upwards. Takes no memory;
+    /// each step takes constant time.
     pub fn edges(&self) -> Edges<'a, Version>
         ensures edges { result ≡ version_edges (version_node self.now) }
         ensures runs { ShowsInOrder (lent_edge {T = VersionRecord}) }

@@ -1,5 +1,5 @@
-//! What a call that reads returns: the words that every contract of a reader cites (`specs/Outcome.antt`),
-//! and the error of what is read from a JSON value.
+//! The results of calls that read: the definitions in every contract of a reader (`specs/Outcome.antt`),
+//! and the error of reading a JSON value.
 #![tactic(auto)]
 
 ghost use Rattle.read_outcome.specs.Outcome.{value_error_text};
@@ -7,12 +7,12 @@ ghost use Rattle.read_outcome.specs.Outcome.{value_error_text};
 use std::error::Error;
 use std::fmt;
 
-/// Why a JSON value is not what is read of it.
+/// Why a JSON value could not be read.
 #[derive(Debug, PartialEq, Eq, Drop)]
 pub enum FromValueError<E: Drop> {
-    /// The value is no text.
+    /// The value is not a text.
     Shape,
-    /// What is wrong with its text; want of memory stands here too.
+    /// What is wrong with the value's text, or lack of memory.
     Text(E),
 }
 

@@ -1,8 +1,8 @@
 #![tactic(auto)]
-//! The commands of `reqs`: each reads its inputs whole, and writes its answer once it is made whole. Those on
-//! lists alone are of `reqs_lists`.
+//! The commands of `reqs`. Each reads its inputs whole, and writes its answer once all of it is made. The
+//! commands on lists alone are in `reqs_lists`.
 //!
-//! Anything that reads bytes may be an input, and anything that writes them the output:
+//! Anything that reads bytes can be an input, and anything that writes them the output:
 //!
 //! ```text
 //! let mut requirements = File::open(rt, "requirements.txt")?;

@@ -1,4 +1,4 @@
--- What is answered with the normal text of a marker that is made of another one (PEP 508, "Environment
+-- The reply with the normal text of a marker that is derived from another one (PEP 508, "Environment
 -- Markers").
 use Rattle.std.specs.Prelude.{◌≡◌, not, ℕ, List}
 use Rattle.pep508_diagram.specs.Question.{Valuation}
@@ -9,6 +9,6 @@ use Rattle.reqs_markers.specs.Markers.{Wants, marker_holds, TextEnds}
 abbrev pub HoldsElsewhere : Wants
 HoldsElsewhere marker value = (v : Valuation) → value v ≡ not (marker_holds marker v)
 
--- how a call ends that is to give the normal text of the marker that holds where another one doesn't
+-- how a call for the normal text of a marker's negation ends
 abbrev pub NegatedEnds : List ℕ → Ending → Type 0
 NegatedEnds bytes = TextEnds bytes HoldsElsewhere

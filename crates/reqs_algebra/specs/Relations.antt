@@ -1,5 +1,4 @@
--- What is answered on the meaning of markers (PEP 508, "Environment Markers"): of one alone, and of two
--- together.
+-- The replies on the meaning of markers (PEP 508, "Environment Markers"): of one alone, and of two together.
 use Rattle.std.specs.Prelude.{◌≡◌, ◌⊎◌, ◌&&◌, ℕ, Bool, true, false, List, codes}
 use Rattle.pep508_diagram.specs.Question.{Valuation}
 use Rattle.pep508_marker_read.specs.MarkerReading.{Marker}
@@ -13,7 +12,7 @@ Values = Valuation → Bool
 
 -- ---- one marker
 
--- this is said of the marker that bytes are
+-- the text has this relation to the values of the marker in these bytes
 pub record SaysOf (bytes : List ℕ) (Says : Values → List ℕ → Type 0) (text : List ℕ) : Type 0 where
   pub marker : Marker
   pub is_marker : IsMarkerIn bytes marker
@@ -25,24 +24,24 @@ AlwaysHolds value = (v : Valuation) → value v ≡ true
 abbrev pub NeverHolds : Values → Type 0
 NeverHolds value = (v : Valuation) → value v ≡ false
 
--- `1` of what always holds, `0` of what never does, `-` of anything else
+-- `1` for what always holds, `0` for what never does, `-` for anything else
 abbrev pub IsTruthOf : Values → List ℕ → Type 0
 IsTruthOf value text =
     ((text ≡ codes "1") × AlwaysHolds value)
     ⊎ (((text ≡ codes "0") × NeverHolds value)
     ⊎ ((text ≡ codes "-") × (AlwaysHolds value → ⊥) × (NeverHolds value → ⊥)))
 
--- how a call ends that is to say whether a marker always holds, or never
+-- how a call for whether a marker always holds, or never, ends
 abbrev pub TruthEnds : List ℕ → Ending → Type 0
 TruthEnds bytes = EndsIn (SaysOf bytes IsTruthOf) (RefusesMarker 1 bytes)
 
 -- ---- two markers
 
--- `1` where it holds, `0` where it doesn't
+-- `1` if it holds, `0` if it doesn't
 abbrev pub IsYesOrNo : Type 0 → List ℕ → Type 0
 IsYesOrNo Holds text = ((text ≡ codes "1") × Holds) ⊎ ((text ≡ codes "0") × (Holds → ⊥))
 
--- the text says whether two markers, which the arguments are, stand so to each other
+-- the text is whether the markers in both arguments are in this relation
 pub record SaysOfTwo (left right : List ℕ) (StandSo : Values → Values → Type 0) (text : List ℕ)
     : Type 0 where
   pub first : Marker
@@ -61,15 +60,15 @@ abbrev pub RefusesEither : List ℕ → List ℕ → Place → List ℕ → Type
 RefusesEither left right place message =
     RefusesMarker 1 left place message ⊎ RefusesSecond left right place message
 
--- how a call ends that is to say whether two markers stand so to each other
+-- how a call for whether two markers are in this relation ends
 abbrev pub EndsOnTwo : (Values → Values → Type 0) → List ℕ → List ℕ → Ending → Type 0
 EndsOnTwo StandSo left right = EndsIn (SaysOfTwo left right StandSo) (RefusesEither left right)
 
--- both hold under no valuation
+-- both hold together under no valuation
 abbrev pub AreDisjoint : Values → Values → Type 0
 AreDisjoint first second = (v : Valuation) → (first v && second v) ≡ false
 
--- how a call ends that is to say whether two markers never hold together
+-- how a call for whether two markers are disjoint ends
 abbrev pub DisjointEnds : List ℕ → List ℕ → Ending → Type 0
 DisjointEnds = EndsOnTwo AreDisjoint
 
@@ -77,6 +76,6 @@ DisjointEnds = EndsOnTwo AreDisjoint
 abbrev pub Implies : Values → Values → Type 0
 Implies first second = (v : Valuation) → first v ≡ true → second v ≡ true
 
--- how a call ends that is to say whether the first marker implies the second
+-- how a call for whether the first marker implies the second ends
 abbrev pub ImpliesEnds : List ℕ → List ℕ → Ending → Type 0
 ImpliesEnds = EndsOnTwo Implies

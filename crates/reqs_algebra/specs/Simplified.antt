@@ -1,4 +1,4 @@
--- What is answered with the normal text of a marker that is simplified (PEP 508, "Environment Markers").
+-- The reply with the normal text of a simplified marker (PEP 508, "Environment Markers").
 use Rattle.std.specs.Prelude.{◌≡◌, ◌⊎◌, ℕ, List, Option}
 use Rattle.pep440_text.specs.Record.{VersionRecord}
 use Rattle.pep508_diagram.specs.Question.{Valuation}
@@ -17,7 +17,7 @@ abbrev pub HoldsWith : List (List ℕ) → Wants
 HoldsWith names marker value =
     (v : Valuation) → value v ≡ marker_holds marker (with_named (is_listed names) v)
 
--- the second argument is these names, and the text is the normal one of the marker with them
+-- the second argument is these names, and the text is the normal one of the marker with extras of these names
 pub record GivesWith (bytes extras text : List ℕ) : Type 0 where
   pub names : List (List ℕ)
   pub are_names : AreNamesIn extras names
@@ -40,7 +40,7 @@ RefusesWith bytes extras place message =
     RefusesMarker 1 bytes place message
     ⊎ (RefusesExtras bytes extras place message ⊎ LacksWith bytes extras place message)
 
--- how a call ends that is to give the normal text of a marker with these extras present, one a line
+-- how a call for the normal text of a marker with these extras present, one per line, ends
 abbrev pub SimplifiedExtrasEnds : List ℕ → List ℕ → Ending → Type 0
 SimplifiedExtrasEnds bytes extras = EndsIn (GivesWith bytes extras) (RefusesWith bytes extras)
 
@@ -51,7 +51,7 @@ abbrev pub HoldsBetween : Option VersionRecord → Option VersionRecord → Want
 HoldsBetween least end marker value =
     IsSimplified (between (lower_bound least) (upper_bound end)) (marker_holds marker) value
 
--- the bounds are these versions, where there are any
+-- the bounds are these versions, if there are any
 pub record AreBounds (lower upper : List ℕ) (least end : Option VersionRecord) : Type 0 where
   pub is_least : IsVersionOrNone lower least
   pub is_end : IsVersionOrNone upper end
@@ -88,7 +88,7 @@ RefusesBetween bytes lower upper place message =
     ⊎ (RefusesLower bytes lower place message
     ⊎ (RefusesUpper bytes lower upper place message ⊎ LacksBetween bytes lower upper place message))
 
--- how a call ends that is to give the normal text of a marker, simplified to a range of versions of Python
+-- how a call for the normal text of a marker, simplified to a range of versions of Python, ends
 abbrev pub SimplifiedPythonEnds : List ℕ → List ℕ → List ℕ → Ending → Type 0
 SimplifiedPythonEnds bytes lower upper =
     EndsIn (GivesBetween bytes lower upper) (RefusesBetween bytes lower upper)

@@ -14,7 +14,11 @@ use reqs_reply::{Ended, Place, text_of};
 use std::alloc::Global;
 use std::ops::Bound;
 
-/// The version of the argument of this number, where it isn't empty; or how the call ends that gets none.
+/// The version of an argument, or `None` if the argument is empty.
+///
+/// # Errors
+///
+/// How the call ends: refused at argument `input` if it is not a version, or out of memory.
 pub(crate) fn read_bound(alloc: Global, input: u32, bytes: &[u8]) -> Result<Option<Version>, Ended>
     ensures version { IfOk result (IsVersionOrNone bytes.now) }
     ensures none { IfErr result (λ ended.
@@ -30,7 +34,7 @@ pub(crate) fn read_bound(alloc: Global, input: u32, bytes: &[u8]) -> Result<Opti
     }
 }
 
-/// How a call ends whose argument is no version, or for which memory ran out.
+/// The end of a call whose argument is not a version, or for which memory ran out.
 fn no_version(alloc: Global, input: u32, bytes: &[u8], error: &VersionParseError) -> Ended
     requires is_text { is_utf8 bytes.now ≡ true }
     requires tells { Tells (told_version error.now) (version_reading bytes.now) }
@@ -42,7 +46,7 @@ fn no_version(alloc: Global, input: u32, bytes: &[u8], error: &VersionParseError
     }
 }
 
-/// From a version on, where there is one.
+/// The bound that includes a version and everything above it, or no bound without a version.
 pub(crate) fn lower_bound(least: &Option<Version>) -> Bound<&Version>
     ensures { lent_bound result ≡ lower_bound least.now }
 {
@@ -52,7 +56,7 @@ pub(crate) fn lower_bound(least: &Option<Version>) -> Bound<&Version>
     }
 }
 
-/// Below a version, where there is one.
+/// The bound that excludes a version and everything above it, or no bound without a version.
 pub(crate) fn upper_bound(end: &Option<Version>) -> Bound<&Version>
     ensures { lent_bound result ≡ upper_bound end.now }
 {

@@ -1,4 +1,4 @@
-//! Markers with extras that are present.
+//! Markers simplified for extras that are present.
 
 ghost use Rattle.std.specs.Prelude.{ℕ, List};
 ghost use Rattle.pep508_tree.specs.Meaning.{IsTree};
@@ -14,12 +14,16 @@ use reqs_markers::{normal_text, read_marker};
 use reqs_reply::{Ended, Reply};
 use std::alloc::Global;
 
-/// Answers with the normal text of the marker that a text is, with the extras taken as present that are the
-/// lines of the second text; empty lines are passed over. A text that is no marker is refused first, then the
-/// first extra that is no name, and then a marker without normal text as `reqs_markers::marker` does.
+/// Replies with the normal text of a marker under the assumption that some extras are present: those on the
+/// lines of `extras`, of which empty lines are skipped.
 ///
-/// Compares each extra in the marker with all that are given; takes exponentially long in the text at worst,
-/// as the normal text's length is then.
+/// Compares each extra in the marker with all that are given. Needs exponential time in the text at worst, as
+/// the normal text's length is then exponential.
+///
+/// # Errors
+///
+/// Refuses, in this order: a text that is not a marker, the first extra that is not a name, and a marker
+/// without a normal text, as `reqs_markers::marker` does. Status 3 when memory runs out.
 pub fn marker_simplify_extras(alloc: Global, bytes: &[u8], extras: &[u8], out: &mut [u8]) -> Reply
     ensures { RepliesAs (SimplifiedExtrasEnds bytes.now extras.now) out.old out.new result }
 {
@@ -41,7 +45,7 @@ fn simplified(alloc: Global, bytes: &[u8], extras: &[u8]) -> Ended
     }
 }
 
-/// How a call ends that gives the normal text of a tree with these extras.
+/// The end of a call that replies with the normal text of a tree with these extras present.
 fn text_with(alloc: Global, interner: &mut Interner, tree: MarkerTree, names: &[ExtraName]) -> Ended
     requires { IsTree interner.old.nodes tree }
     ensures { (bytes : List ℕ) → IsMarkerTree interner.old.nodes bytes tree →

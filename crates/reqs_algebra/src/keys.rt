@@ -11,12 +11,15 @@ use reqs_markers::read_marker;
 use reqs_reply::{Ended, Reply};
 use std::alloc::{AllocError, Global};
 
-/// Answers with the key of the marker that a text is: bytes that are the same exactly where two markers hold
-/// in the same environments with the same extras (`laws::keys_are_of_meanings`), however they are written. So
-/// keys are compared, hashed and sorted in place of markers; their order means nothing more. Another text is
-/// refused where it stops being a marker.
+/// Replies with the key of a marker: bytes that are equal exactly if two markers hold under the same
+/// valuations (`laws::keys_are_of_meanings`), however they are written. So keys can be compared, hashed and
+/// sorted instead of markers; their order means nothing more.
 ///
-/// Linear in the text but for combining the marker's trees; then O(n log n) in the nodes of the tree.
+/// Linear in the text except for combining the marker's trees; then O(n log n) in the nodes of the tree.
+///
+/// # Errors
+///
+/// Refuses a text that is not a marker, at the byte where it stops being one. Status 3 when memory runs out.
 pub fn marker_key(alloc: Global, bytes: &[u8], out: &mut [u8]) -> Reply
     ensures { RepliesAs (KeyEnds bytes.now) out.old out.new result }
 {

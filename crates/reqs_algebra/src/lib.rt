@@ -1,7 +1,10 @@
-//! What the library for C answers on the meaning of markers (PEP 508, "Environment Markers"), over bytes:
-//! whether they always hold, exclude or imply one another, and the normal texts of markers that are made of
-//! them.
 #![tactic(auto)]
+//! The C library's calls on the meaning of markers (PEP 508, "Environment Markers"), over bytes: whether they
+//! always hold, exclude or imply one another, and the normal texts of markers that are derived from them.
+//!
+//! Answers are about valuations: a value for each variable of markers, an answer to each question whether one
+//! string is in another, and a set of extras, all independent of each other. Each environment with extras is
+//! one; others match no real interpreter.
 
 mod bounds;
 mod extras;

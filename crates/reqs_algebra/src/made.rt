@@ -1,4 +1,4 @@
-//! Normal texts of markers that are made of others.
+//! Normal texts of markers that are derived from others.
 
 ghost use Rattle.reqs_reply.specs.Endings.{RepliesAs, ending_of};
 ghost use Rattle.reqs_algebra.specs.Made.{NegatedEnds};
@@ -9,11 +9,14 @@ use reqs_markers::{normal_text, read_marker};
 use reqs_reply::{Ended, Reply};
 use std::alloc::Global;
 
-/// Answers with the normal text of the marker that holds exactly where the one doesn't that a text is.
-/// Another text is refused where it stops being a marker; a marker whose negation has no normal text is
-/// refused as `reqs_markers::marker` does.
+/// Replies with the normal text of the negation of a marker: it holds exactly where the marker doesn't.
 ///
-/// Takes exponentially long in the text at worst, as the normal text's length is then.
+/// Needs exponential time in the text at worst, as the normal text's length is then exponential.
+///
+/// # Errors
+///
+/// Refuses a text that is not a marker, at the byte where it stops being one, and then a marker whose
+/// negation has no normal text, as `reqs_markers::marker` does. Status 3 when memory runs out.
 pub fn marker_negated(alloc: Global, bytes: &[u8], out: &mut [u8]) -> Reply
     ensures { RepliesAs (NegatedEnds bytes.now) out.old out.new result }
 {

@@ -10,7 +10,12 @@ use pep508_name::{ExtraName, InvalidNameError};
 use reqs_reply::{Ended, Place, filled_lines, text_of};
 use std::alloc::Global;
 
-/// The names that are the lines of the argument of this number, or how the call ends that gets none.
+/// The names on the lines of an argument, of which empty lines are skipped.
+///
+/// # Errors
+///
+/// How the call ends: refused at argument `input` if it is not UTF-8 or a line is not a name, or out of
+/// memory.
 pub(crate) fn read_names(alloc: Global, input: u32, bytes: &[u8]) -> Result<Vec<ExtraName>, Ended>
     ensures names { IfOk result (λ names. AreNamesIn bytes.now names.items) }
     ensures none { IfErr result (λ ended. EndsIn NoAnswer (RefusesNames input bytes.now) (ending_of ended)) }
@@ -25,7 +30,7 @@ pub(crate) fn read_names(alloc: Global, input: u32, bytes: &[u8]) -> Result<Vec<
     }
 }
 
-/// The names that lines are, in order.
+/// The name on each line, in order.
 fn names_of_lines(alloc: Global, lines: &[&str]) -> Result<Vec<ExtraName>, InvalidNameError>
     ensures { Answers (λ names. names.items) told_name result (names_of (map (λ line. line.now) lines.now)) }
 {
@@ -39,7 +44,7 @@ fn names_of_lines(alloc: Global, lines: &[&str]) -> Result<Vec<ExtraName>, Inval
     Ok(names)
 }
 
-/// How a call ends with a line that is no name, or for which memory ran out.
+/// The end of a call with a line that is not a name, or for which memory ran out.
 fn no_name(alloc: Global, input: u32, error: &InvalidNameError) -> Ended
     ensures { (names : Result (List (List ℕ)) (List ℕ)) → Tells (told_name error.now) names →
         EndsIn NoAnswer (IsNoName input names) (ending_of result) }

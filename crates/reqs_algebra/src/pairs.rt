@@ -1,4 +1,4 @@
-//! Two markers together.
+//! Relations between two markers.
 
 ghost use Rattle.std.specs.Prelude.{◌≡◌, ◌↔◌, IsTrue, IfOk, IfErr, MatchResult};
 ghost use Rattle.pep508_tree.specs.Meaning.{IsTree, holds};
@@ -15,10 +15,15 @@ use reqs_markers::read_marker;
 use reqs_reply::{Ended, Reply};
 use std::alloc::{AllocError, Global};
 
-/// Answers `1` where no environment and no extras make both markers hold that two texts are, else `0`.
-/// Another text is refused where it stops being a marker, the first one first.
+/// Replies with `1` if both markers hold together under no valuation, and so in no environment with any
+/// extras, otherwise with `0`.
 ///
-/// Looks at pairs of a node of the one marker's tree and one of the other's, each at most once.
+/// Visits pairs of a node of one marker's tree and a node of the other's, each at most once.
+///
+/// # Errors
+///
+/// Refuses a text that is not a marker, the first argument before the second, at the byte where it stops
+/// being one. Status 3 when memory runs out.
 pub fn markers_disjoint(alloc: Global, left: &[u8], right: &[u8], out: &mut [u8]) -> Reply
     ensures { RepliesAs (DisjointEnds left.now right.now) out.old out.new result }
 {
@@ -36,10 +41,15 @@ fn disjoint(alloc: Global, left: &[u8], right: &[u8]) -> Ended
     }
 }
 
-/// Answers `1` where the second marker holds in each environment, with whatever extras, in which the first
-/// one does, else `0`. A text that is no marker is refused where it stops being one, the first one first.
+/// Replies with `1` if the second marker holds under each valuation under which the first one does, and so in
+/// each such environment with any extras, otherwise with `0`.
 ///
 /// Costs what `markers_disjoint` does.
+///
+/// # Errors
+///
+/// Refuses a text that is not a marker, the first argument before the second, at the byte where it stops
+/// being one. Status 3 when memory runs out.
 pub fn marker_implies(alloc: Global, left: &[u8], right: &[u8], out: &mut [u8]) -> Reply
     ensures { RepliesAs (ImpliesEnds left.now right.now) out.old out.new result }
 {
@@ -57,7 +67,8 @@ fn implied(alloc: Global, left: &[u8], right: &[u8]) -> Ended
     }
 }
 
-/// Whether the second tree holds wherever the first one does: never together with what the second isn't.
+/// Whether the second tree holds wherever the first one does: the first is disjoint from the negation of the
+/// second.
 fn implies(
     alloc: Global,
     interner: &Interner,
@@ -73,7 +84,11 @@ fn implies(
     first.is_disjoint(alloc, interner, second.negate())
 }
 
-/// The trees of the markers that the two arguments are, or how the call ends that gets none.
+/// The trees of the markers in both arguments.
+///
+/// # Errors
+///
+/// How the call ends: refused for the first argument that is not a marker, or out of memory.
 fn read_two(
     alloc: Global,
     interner: &mut Interner,
@@ -91,7 +106,7 @@ fn read_two(
     Ok((first, second))
 }
 
-/// How a call ends that answers with `1` or `0`, unless memory ran out for the answer.
+/// The end of a call that replies with `1` or `0`, or is out of memory.
 fn said_whether(alloc: Global, yes: Result<bool, AllocError>) -> Ended
     ensures { MatchResult yes (λ yes. EndsIn (λ text. text ≡ yes_or_no yes) NoRefusal (ending_of result))
         (λ error. ending_of result ≡ OutOfMemory) }

@@ -11,10 +11,14 @@ use reqs_markers::read_marker;
 use reqs_reply::{Ended, Reply};
 use std::alloc::Global;
 
-/// Answers `1` where the marker that a text is holds in each environment with all extras, `0` where it holds
-/// in none, and `-` else. Another text is refused where it stops being a marker.
+/// Replies with `1` if the marker holds under every valuation, and so in every environment with any extras,
+/// with `0` if it holds under none, and otherwise with `-`.
 ///
-/// Linear in the text but for combining the marker's trees, after which the answer is at hand.
+/// Linear in the text except for combining the marker's trees, after which the answer takes constant time.
+///
+/// # Errors
+///
+/// Refuses a text that is not a marker, at the byte where it stops being one. Status 3 when memory runs out.
 pub fn marker_truth(alloc: Global, bytes: &[u8], out: &mut [u8]) -> Reply
     ensures { RepliesAs (TruthEnds bytes.now) out.old out.new result }
 {
@@ -32,7 +36,7 @@ fn truth(alloc: Global, bytes: &[u8]) -> Ended
     }
 }
 
-/// What is said of a tree.
+/// The reply for a tree: `1` if it always holds, `0` if it never holds, otherwise `-`.
 fn truth_of(interner: &Interner, tree: MarkerTree) -> &'static str
     requires { IsTree interner.now.nodes tree }
     ensures { IsTruthOf (holds interner.now.nodes tree) result.now }
@@ -47,7 +51,7 @@ fn truth_of(interner: &Interner, tree: MarkerTree) -> &'static str
     }
 }
 
-/// How a call ends that answers with a text, unless memory runs out.
+/// The end of a call that replies with a text, or is out of memory.
 pub(crate) fn said(alloc: Global, text: &str) -> Ended
     ensures { EndsIn (λ answer. answer ≡ text.now) NoRefusal (ending_of result) }
 {

@@ -1,4 +1,4 @@
-//! Markers within a range of versions of Python.
+//! Markers simplified for a range of versions of Python.
 
 ghost use Rattle.std.specs.Prelude.{ℕ, List};
 ghost use Rattle.pep508_tree.specs.Meaning.{IsTree};
@@ -14,13 +14,18 @@ use reqs_markers::{normal_text, read_marker};
 use reqs_reply::{Ended, Reply};
 use std::alloc::Global;
 
-/// Answers with the normal text of a marker that says what the one that a text is says where
-/// `python_full_version` lies from the version that `lower` is on and below the one that `upper` is, and asks
-/// of it no more than that takes; an empty bound is none. A text that is no marker is refused first, then a
-/// bound that is no version, and then a marker without normal text as `reqs_markers::marker` does.
+/// Replies with the normal text of a marker, simplified under the assumption that `python_full_version` is at
+/// least the version in `lower` and below the one in `upper`; an empty argument is no bound. Within these
+/// bounds the text holds exactly where the marker does, and it tests `python_full_version` no more than that
+/// needs.
 ///
-/// Compares each boundary of a version of Python with both bounds; takes exponentially long in the text at
-/// worst, as the normal text's length is then.
+/// Compares each boundary of a version of Python with both bounds. Needs exponential time in the text at
+/// worst, as the normal text's length is then exponential.
+///
+/// # Errors
+///
+/// Refuses, in this order: a text that is not a marker, a bound that is not a version, and a marker without a
+/// normal text, as `reqs_markers::marker` does. Status 3 when memory runs out.
 pub fn marker_simplify_python(
     alloc: Global,
     bytes: &[u8],
@@ -52,7 +57,7 @@ fn simplified(alloc: Global, bytes: &[u8], lower: &[u8], upper: &[u8]) -> Ended
     }
 }
 
-/// How a call ends that gives the normal text of a tree that is simplified.
+/// The end of a call that replies with the normal text of a tree that is simplified to these bounds.
 fn text_between(
     alloc: Global,
     interner: &mut Interner,

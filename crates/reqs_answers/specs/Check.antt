@@ -1,4 +1,4 @@
--- What `check` does, from the bytes of its inputs to the bytes of its answer.
+-- The command `check`, from the bytes of its inputs to the bytes of its answer.
 use Rattle.std.specs.Prelude.{◌≡◌, ◌||◌, ℕ, not, List, [], ◌∷◌, Option, Result, Ok, Err, String}
 use Rattle.std.specs.String.{string_bytes}
 use Rattle.pep440_version.specs.Changes.{is_prerelease}
@@ -18,23 +18,23 @@ use Rattle.reqs_ends.specs.Inputs.{environment_from}
 use Rattle.reqs_ends.specs.Ends.{of_input, Runs}
 use Rattle.reqs_answers.specs.Texts.{ReadTexts, texts_of}
 
--- a pre-release or a developmental release is admitted where an applying line has a specifier with one, and
--- any other version always
+-- a pre-release or a developmental release is admitted if an applicable line has a specifier that names one,
+-- and any other version always
 abbrev pub on_request : Admits
 on_request = λ version names_prerelease. names_prerelease || not (is_prerelease version)
 
--- what the texts of `check` are
+-- the parsed texts of `check`, or the first thing at fault
 abbrev pub CheckTexts : Type 0
 CheckTexts = Result (ReadTexts EnvironmentRecord) Cause
 
--- the text is the answer's in a format, for texts in the written grammars
+-- the text is that of the answer in a format, for valid texts
 pub record IsCheckText (format : Format) (texts : CheckTexts) (text : List ℕ) : Type 0 where
   pub read : ReadTexts EnvironmentRecord
   pub is_read : texts ≡ Ok read
   pub is_text : IsAnswerIn format on_request (asks_of (valuation_of read.second read.extras) read.lines)
       read.candidates text
 
--- the text is the answer's; or the texts are refused for what the fault says
+-- the text is that of the answer; or the texts are refused for this fault
 abbrev pub AnswersText : {Y : Type 0} → (RunFault → Type 0) → Format → Result (String Y) RunFault → CheckTexts
     → Type 0
 AnswersText IsOne format (Ok text) texts = IsCheckText format texts (string_bytes text)
@@ -53,7 +53,8 @@ abbrev pub CheckRefuses : Variables → List (List ℕ) → List (List ℕ) → 
 CheckRefuses vars extras inputs fault =
     Refuses (IsOfTexts vars First (of_input inputs First)) fault (check_texts vars extras inputs)
 
--- `check` ends so, with what its readers tell of the requirements, the environment and the candidates
+-- `check` ends with this result, for the bytes that its readers have of the requirements, the environment and
+-- the candidates
 abbrev pub RunsCheck : {W : Type 0} → Format → Variables → List (List ℕ) → Option (List ℕ)
     → Option (List ℕ) → Option (List ℕ) → (W → Option (List ℕ)) → W → W → Result Status RunFault → Type 0
 RunsCheck format vars extras requirements environment candidates contents old new result =

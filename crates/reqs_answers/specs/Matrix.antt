@@ -1,4 +1,4 @@
--- What `matrix` does, from the bytes of its inputs to the bytes of its answers.
+-- The command `matrix`, from the bytes of its inputs to the bytes of its answers.
 use Rattle.std.specs.Prelude.{◌≡◌, ◌⊎◌, ℕ, suc, List, [], ◌∷◌, ◌++◌, codes, Option, Result, Ok, Err}
 use Rattle.std.specs.List.{AllZip}
 use Rattle.std.specs.Fmt.{decimal}
@@ -34,7 +34,7 @@ use Rattle.reqs_answers.specs.Texts.{ReadTexts, texts_of}
 
 -- ---- the text
 
--- what stands before the answer for an environment
+-- the line before the answer for an environment
 abbrev pub environment_line : ℕ → List ℕ
 environment_line number = codes "env " ++ decimal number ++ codes "\n"
 
@@ -56,7 +56,7 @@ AreAnswers admits extras lines candidates environments answers =
     (λ environment rows. IsAnswer admits (asks_of (valuation_of environment extras) lines) candidates rows)
     environments answers
 
--- the text of all answers in a format: that above, or the line of the object that has the rows of each
+-- the text of all answers in a format: lines, or the line of the object that has the rows of each
 abbrev pub IsMatrixIn : Format → Admits → List (List ℕ) → List LineRecord → List Candidate
     → List EnvironmentRecord → List ℕ → Type 0
 IsMatrixIn Text admits extras lines candidates environments text =
@@ -65,12 +65,12 @@ IsMatrixIn Json admits extras lines candidates environments text =
     (answers : List (List RowRecord)) × AreAnswers admits extras lines candidates environments answers
     × (text ≡ line_of (answers_value candidates answers))
 
--- texts one behind another, each behind the line of its environment
+-- texts one after another, each after the line of its environment
 abbrev pub numbered : ℕ → List (List ℕ) → List ℕ
 numbered number [] = []
 numbered number (answer ∷ answers) = environment_line number ++ answer ++ numbered (suc number) answers
 
--- ---- what texts are answered with
+-- ---- the result for texts
 
 abbrev pub MatrixTexts : Type 0
 MatrixTexts = Result (ReadTexts (List EnvironmentRecord)) Cause
@@ -81,24 +81,24 @@ pub record IsWithinLimit (format : Format) (limit : ℕ) (read : ReadTexts (List
   pub few : (name : List ℕ) → HasTooMany limit read.lines name → ⊥
   pub is_text : IsMatrixIn format on_request read.extras read.lines read.candidates read.second text
 
--- the fault names the first package that has more
+-- the fault names the first package that has more cases than the limit
 abbrev pub IsOverLimit : ℕ → List LineRecord → RunFault → Type 0
 IsOverLimit limit lines fault =
     (name : List ℕ) × (fault ≡ TooManyCases First limit name) × IsFirstTooMany limit lines name
 
--- texts are read as what has this property
+-- texts are parsed to values with this property
 abbrev pub IsRead : MatrixTexts → (ReadTexts (List EnvironmentRecord) → Type 0) → Type 0
 IsRead texts Holds = (read : ReadTexts (List EnvironmentRecord)) × (texts ≡ Ok read) × Holds read
 
--- the text has the answers; or the texts are refused for what the fault says, or, once all are read, for a
--- package that has too many cases
+-- the text has the answers; or the texts are refused for this fault, or, once all are parsed, for a package
+-- that has too many cases
 abbrev pub AnswersAll : (RunFault → Type 0) → Format → ℕ → Result PiecesRecord RunFault → MatrixTexts → Type 0
 AnswersAll IsOne format limit (Ok text) texts =
     IsRead texts (λ read. IsWithinLimit format limit read text.whole)
 AnswersAll IsOne format limit (Err fault) texts =
     Refuses IsOne fault texts ⊎ IsRead texts (λ read. IsOverLimit limit read.lines fault)
 
--- lines stand for those of some text
+-- lines represent those of some text
 abbrev pub AreRead : List NodeRecord → List Line → Type 0
 AreRead nodes lines = (vars : Variables) × (said : List LineRecord) × AllZip (StandsFor vars nodes) lines said
 
@@ -112,7 +112,7 @@ matrix_texts vars extras inputs =
     texts_of (environments_from Second) vars extras
     (of_input inputs First) (of_input inputs Second) (of_input inputs Third)
 
--- the text was written, or a front of it; or, for want of memory, nothing
+-- the text was written, or a prefix of it; or nothing, since memory ran out
 abbrev pub WritesText : {W : Type 0} → (W → Option (List ℕ)) → W → W → List ℕ → Result Status RunFault
     → Type 0
 WritesText contents old new text (Ok status) = (status ≡ Answered) × WritesWhole contents old new text
@@ -132,7 +132,8 @@ MatrixRefuses limit vars extras inputs fault =
     Refuses (IsOfTexts vars First (of_input inputs First)) fault (matrix_texts vars extras inputs)
     ⊎ IsRead (matrix_texts vars extras inputs) (λ read. IsOverLimit limit read.lines fault)
 
--- `matrix` ends so, with what its readers tell of the requirements, the environments and the candidates
+-- `matrix` ends with this result, for the bytes that its readers have of the requirements, the environments
+-- and the candidates
 abbrev pub RunsMatrix : {W : Type 0} → Format → ℕ → Variables → List (List ℕ) → Option (List ℕ)
     → Option (List ℕ) → Option (List ℕ) → (W → Option (List ℕ)) → W → W → Result Status RunFault → Type 0
 RunsMatrix format limit vars extras requirements environments candidates contents old new result =

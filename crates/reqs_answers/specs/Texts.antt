@@ -1,4 +1,4 @@
--- What the texts of a command's inputs and its extras are, or what is at fault there.
+-- The parsed texts of a command's inputs and its extras, or the first thing at fault.
 use Rattle.std.specs.Prelude.{ℕ, List, Result, Ok}
 use Rattle.pep508_url.specs.Vars.{Variables}
 use Rattle.reqtable_text.specs.declared.candidates.Candidate.{Candidate}
@@ -7,14 +7,14 @@ use Rattle.reqs_ends.specs.declared.fault.Input.TheVariants.{First, Third}
 use Rattle.reqs_ends.specs.Faults.{Cause}
 use Rattle.reqs_ends.specs.Inputs.{◌>>=◌, extras_of, lines_from, candidates_from}
 
--- extras, requirements, what the second input is, and candidates
+-- extras, requirements, the parsed second input, and candidates
 pub record ReadTexts (E : Type 0) : Type 0 where
   pub extras : List (List ℕ)
   pub lines : List LineRecord
   pub second : E
   pub candidates : List Candidate
 
--- what a second and a third text are, or the first thing at fault, behind extras and lines that are read
+-- a parsed second and third text, or the first thing at fault, after parsed extras and lines
 unfoldable pub behind_lines : {E : Type 0} → (List ℕ → Result E Cause) → List (List ℕ) → List LineRecord
     → List ℕ → List ℕ → Result (ReadTexts E) Cause
 behind_lines second_from extras lines second candidates = do
@@ -22,7 +22,7 @@ behind_lines second_from extras lines second candidates = do
   list ← candidates_from Third candidates
   Ok (record { extras = extras; lines = lines; second = read; candidates = list })
 
--- what three texts and some extras are, or the first thing at fault: that of the extras before that of the
+-- three parsed texts and the extras, or the first thing at fault: that of the extras before that of the
 -- requirements, and so on in the order of the command line
 unfoldable pub texts_of : {E : Type 0} → (List ℕ → Result E Cause) → Variables → List (List ℕ)
     → List ℕ → List ℕ → List ℕ → Result (ReadTexts E) Cause

@@ -1,12 +1,15 @@
 //! `check`: the answer for one environment.
+//!
+//! `check` and `matrix` read requirements, extras and candidates by one definition (`texts_of`), whose
+//! parameter is what the second text is.
 
 ghost use Rattle.std.specs.Prelude.{◌≡◌, ◌≢◌, List, map, IfErr, IfOk, string_bytes};
 ghost use Rattle.std.specs.List.{AllZip};
 ghost use Rattle.pep508_url.specs.Vars.{Variables};
 ghost use Rattle.pep508_evaluation.specs.Valuations.{valuation_of};
-ghost use Rattle.reqtable_requirements.specs.Asks.{AreOfNodes, asks_of};
+ghost use Rattle.reqtable_requirements.specs.Asks.{asks_of};
 ghost use Rattle.reqtable_requirements.specs.LineReading.{LineRecord};
-ghost use Rattle.reqtable_requirements.specs.Requirements.{StandsFor};
+ghost use Rattle.reqtable_requirements.specs.Requirements.{SaysLine};
 ghost use Rattle.reqs_json.specs.Rows.{IsAnswerIn};
 ghost use Rattle.reqs_ends.specs.declared.fault.Input.TheVariants.{First, Second};
 ghost use Rattle.reqs_ends.specs.Faults.{IsPlain, IsOfTexts};
@@ -17,29 +20,33 @@ ghost use Rattle.reqs_answers.specs.Texts.{behind_lines, texts_of};
 use crate::admitting::is_admitted;
 use pep508_environment::MarkerEnvironment;
 use pep508_name::ExtraName;
-use pep508_tree::Interner;
 use pep508_url::Vars;
 use reqs_ends::{
     Input, RunFault, Status, read_candidates, read_environment, read_extras, read_input,
-    read_requirements, write_answer,
+    read_marked_lines, write_answer,
 };
 use reqs_json::Format;
 use reqtable_answer::Admission;
-use reqtable_requirements::Requirements;
+use reqtable_requirements::MarkedLines;
 use reqtable_text::Candidates;
 use std::alloc::{AllocError, Global};
 use std::io::{Read, Write};
 
-/// Reads a list of requirements, an environment and a list of candidates, and writes for each
-/// package that a line which applies asks for, with the extras that these lines ask for, the greatest
-/// candidate that all of them take, the first among equals, or `none`; or `direct` where one of them has
-/// a URL. A pre-release or a developmental release is a candidate only where a specifier of the package's
-/// lines that apply names one. Rows stand in the order of the names' bytes, a line for each, or as one object
-/// (`docs/JSON.md`).
+/// Reads a list of requirements, an environment and a list of candidates, and writes the row of each package
+/// that an applicable line requires, with the extras that these lines name: the highest candidate that all of
+/// them accept, the first among equals; `none` if there isn't one; or `direct` if one of the lines has a URL.
+/// A pre-release or a developmental release is a candidate only if a specifier of the package's applicable
+/// lines names one. Rows are in the order of the bytes of the packages' names, one per line, or in one object
+/// (`docs/COMMANDS.md`).
 ///
-/// All inputs are read whole, in this order; then the extras are read as names, and then each
-/// input as what it is. The answer is made whole before the first write, by one call of
-/// `Requirements::judge`.
+/// All inputs are read whole, in this order; then the extras are parsed as names, and then each input. The
+/// whole answer is made, by one call of `MarkedLines::judge`, before the first write.
+///
+/// # Errors
+///
+/// A `RunFault` for an input that can't be read whole, for the first extra that is not a name, or for the
+/// first input that is invalid; nothing is written then. `RunFault::Memory` when memory runs out, before the
+/// first write. `RunFault::Write` if the output fails; a prefix of the answer may be written then.
 pub fn check<L: Read, E: Read, C: Read, W: Write>(
     alloc: Global,
     requirements: &mut L,
@@ -71,7 +78,7 @@ pub fn check<L: Read, E: Read, C: Read, W: Write>(
     write_answer(output, text.as_str(), Status::Answered)
 }
 
-/// The text of the answer. The bytes of each input are let go once they are read.
+/// The text of the answer. Drops the bytes of each input once they are parsed.
 fn check_text(
     alloc: Global,
     requirements: &mut Vec<u8>,
@@ -86,12 +93,10 @@ fn check_text(
         requirements.old.items environment.old.items candidates.old.items) }
 {
     let extras = read_extras(alloc, extras)?;
-    let mut interner = Interner::new(alloc);
-    let requirements = read_requirements(alloc, Input::First, requirements, &mut interner, vars)?;
+    let requirements = read_marked_lines(alloc, Input::First, requirements, vars)?;
     text_behind(
         alloc,
         &requirements,
-        &interner,
         &extras,
         environment,
         candidates,
@@ -99,19 +104,16 @@ fn check_text(
     )
 }
 
-/// The text of the answer for requirements and extras that are read.
+/// The text of the answer for parsed requirements and extras.
 fn text_behind(
     alloc: Global,
-    requirements: &Requirements,
-    interner: &Interner,
+    requirements: &MarkedLines,
     extras: &[ExtraName],
     environment: &mut Vec<u8>,
     candidates: &mut Vec<u8>,
     format: Format,
 ) -> Result<String, RunFault>
-    requires { AreOfNodes interner.now.nodes requirements.now }
-    ensures { (vars : Variables) (said : List LineRecord) →
-        AllZip (StandsFor vars interner.now.nodes) requirements.now said →
+    ensures { (vars : Variables) (said : List LineRecord) → AllZip (SaysLine vars) requirements.now said →
         AnswersText IsPlain format result (behind_lines (environment_from Second 1) extras.now said
         environment.old.items candidates.old.items) }
 {
@@ -120,7 +122,6 @@ fn text_behind(
     match answer_text(
         alloc,
         requirements,
-        interner,
         &environment,
         extras,
         &candidates,
@@ -131,23 +132,21 @@ fn text_behind(
     }
 }
 
-/// The text of what the requirements ask for in the environment with the extras, in a format.
+/// The text, in a format, of the answer to the requirements in the environment with the extras.
 fn answer_text(
     alloc: Global,
-    requirements: &Requirements,
-    interner: &Interner,
+    requirements: &MarkedLines,
     environment: &MarkerEnvironment,
     extras: &[ExtraName],
     candidates: &Candidates,
     format: Format,
 ) -> Result<String, AllocError>
-    requires { AreOfNodes interner.now.nodes requirements.now }
     ensures { IfOk result (λ text. (vars : Variables) (said : List LineRecord) →
-        AllZip (StandsFor vars interner.now.nodes) requirements.now said →
+        AllZip (SaysLine vars) requirements.now said →
         IsAnswerIn format on_request (asks_of (valuation_of environment.now extras.now) said) candidates.now
         (string_bytes text)) }
 {
     let admission = Admission::new(|version, named| is_admitted(version, named));
-    let answer = requirements.judge(alloc, interner, environment, extras, candidates, &admission)?;
+    let answer = requirements.judge(alloc, environment, extras, candidates, &admission)?;
     reqs_json::answer_text(alloc, format, &answer, candidates)
 }

@@ -1,4 +1,4 @@
-//! Laws over the definitions. The functions do nothing: each one's contract is its law.
+//! Laws about what these commands write. The functions do nothing: each one's contract is its law.
 
 ghost use Rattle.std.specs.Prelude.{◌≡◌, List, ℕ, map, Ok};
 ghost use Rattle.std.specs.List.{AllZip};
@@ -15,7 +15,7 @@ ghost use Rattle.reqs_answers.specs.Check.{on_request, CheckTexts, IsCheckText};
 ghost use Rattle.reqs_answers.specs.Matrix.{AreAnswers, IsMatrixText, IsMatrixIn, numbered};
 ghost use Rattle.reqs_answers.specs.Texts.{ReadTexts};
 
-/// What `matrix` writes is what `check` writes for one environment after another, each behind its line.
+/// `matrix` writes what `check` writes for one environment after another, each after its environment's line.
 pub fn matrix_writes_what_check_writes()
     ensures { (extras : List (List ℕ)) (lines : List LineRecord) (candidates : List Candidate)
         (environments : List EnvironmentRecord) (answers : List (List ℕ)) (text : List ℕ) → AllZip
@@ -24,7 +24,7 @@ pub fn matrix_writes_what_check_writes()
         IsMatrixText on_request extras lines candidates 1 environments text → text ≡ numbered 1 answers }
 {}
 
-/// What `check` writes has the same rows in both formats, those of the texts' answer.
+/// `check` writes the same rows in both formats, those of the inputs' answer.
 pub fn both_formats_have_the_same_rows()
     ensures { (texts : CheckTexts) (lines object : List ℕ) →
         IsCheckText Text texts lines → IsCheckText Json texts object →
@@ -34,7 +34,7 @@ pub fn both_formats_have_the_same_rows()
         × (object ≡ line_of (answer_value read.candidates rows)) }
 {}
 
-/// And so has what `matrix` writes, environment by environment.
+/// `matrix` writes the same rows in both formats, environment by environment.
 pub fn both_formats_of_matrix_have_the_same_rows()
     ensures { (extras : List (List ℕ)) (lines : List LineRecord) (candidates : List Candidate)
         (environments : List EnvironmentRecord) (text object : List ℕ) →

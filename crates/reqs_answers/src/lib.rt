@@ -1,6 +1,6 @@
 #![tactic(auto)]
 //! The commands of `reqs` that judge a list: for one environment, and for many. Each reads its inputs whole,
-//! and writes its answer once it is made whole.
+//! and writes its answer once all of it is made.
 //!
 //! ```text
 //! let status = check(

@@ -1,4 +1,9 @@
 //! `matrix`: the answers for many environments, from one table of the requirements.
+//!
+//! Too many cases refuse a list whatever the environments are, even none, and after all texts are read:
+//! that depends on the requirements and the limit alone. The text is stated environment by environment by
+//! the very definition by which `check` is stated; that it is what `check` writes is then a law, since an
+//! answer has one text.
 
 ghost use Rattle.std.specs.Prelude.{◌≡◌, ◌≢◌, ◌++◌, ◌∷◌, [], List, map, codes};
 ghost use Rattle.std.specs.Prelude.{IfErr, IfOk, OnOk, string_bytes};
@@ -40,18 +45,25 @@ use reqtable_text::Candidates;
 use std::alloc::{AllocError, Global};
 use std::io::{Read, Write};
 
-/// How many bytes of the text wait for one another before they are written.
+/// The size of the output buffer, in bytes.
 const WAITING_BYTES: usize = 65_536;
 
 /// Reads a list of requirements, a list of environments and a list of candidates, and writes for each
-/// environment its number, as `env 1`, on a line, and then what `check` writes for it; or one object of the
-/// rows of all (`docs/JSON.md`).
+/// environment its number, as `env 1`, on a line, and then what `check` writes for it; or one object with the
+/// rows of all (`docs/COMMANDS.md`).
 ///
-/// All inputs are read whole, in this order; then the extras are read as names, and then each input
-/// as what it is. Then one table of the requirements is made, from which all environments are answered, by
-/// `Table::build`. A package that has more cases than the limit is refused: the first by name, whatever the
-/// environments are. Before the first write all is decided, and all memory is there that writing takes: of
-/// the lines each row is kept once, however many environments have it; an object is kept whole.
+/// All inputs are read whole, in this order; then the extras are parsed as names, and then each input. Then
+/// one table of the requirements is built, by `Table::build`, from which all environments are answered.
+/// Before the first write everything is decided, and all memory for writing is allocated: in text format each
+/// distinct row is kept once, however many environments have it; an object is kept whole.
+///
+/// # Errors
+///
+/// A `RunFault` for an input that can't be read whole, for the first extra that is not a name, or for the
+/// first input that is invalid; then `RunFault::TooManyCases` for the first package by name with more cases
+/// than `limit`, whatever the environments are. Nothing is written then. `RunFault::Memory` when memory runs
+/// out, before the first write. `RunFault::Write` if the output fails; a prefix of the answers may be written
+/// then.
 pub fn matrix<L: Read, E: Read, C: Read, W: Write>(
     alloc: Global,
     requirements: &mut L,
@@ -85,7 +97,7 @@ pub fn matrix<L: Read, E: Read, C: Read, W: Write>(
     write_text(alloc, &text, output)
 }
 
-/// Writes the text of all answers through a buffer, whose memory is taken before the first write.
+/// Writes the text of all answers through a buffer, which is allocated before the first write.
 fn write_text<W: Write>(alloc: Global, text: &Pieces, output: &mut W) -> Result<Status, RunFault>
     ensures { WritesText W.contents output.old output.new text.now.whole result }
 {
@@ -99,7 +111,7 @@ fn write_text<W: Write>(alloc: Global, text: &Pieces, output: &mut W) -> Result<
     }
 }
 
-/// The text of all answers. The bytes of each input are let go once they are read.
+/// The text of all answers. Drops the bytes of each input once they are parsed.
 fn matrix_text(
     alloc: Global,
     requirements: &mut Vec<u8>,
@@ -129,7 +141,7 @@ fn matrix_text(
     )
 }
 
-/// The text of all answers for requirements and extras that are read.
+/// The text of all answers for parsed requirements and extras.
 fn matrix_behind(
     alloc: Global,
     requirements: Requirements,
@@ -216,7 +228,8 @@ fn answers_text(
     )
 }
 
-/// The same among the candidates of the table's packages.
+/// The answers of a table for all environments with the extras, in a format, selected among the candidates in
+/// `runs`.
 fn answers_in<F: Fn(&Version, bool) -> bool>(
     alloc: Global,
     table: &mut Table,
@@ -261,7 +274,7 @@ fn answers_in<F: Fn(&Version, bool) -> bool>(
     }
 }
 
-/// The object of these answers.
+/// The object of a table's answers for all environments.
 fn objects_among<F: Fn(&Version, bool) -> bool>(
     alloc: Global,
     table: &mut Table,
@@ -292,7 +305,7 @@ fn objects_among<F: Fn(&Version, bool) -> bool>(
     Ok(text)
 }
 
-/// Puts what stands before all environments behind a text.
+/// Appends the start of the object, before all environments.
 fn open_object(alloc: Global, text: &mut Pieces) -> Result<(), AllocError>
     ensures { OnOk result (text.new.whole ≡ text.old.whole ++ codes "{\"environments\":[") }
 {
@@ -300,7 +313,7 @@ fn open_object(alloc: Global, text: &mut Pieces) -> Result<(), AllocError>
     put(text, piece)
 }
 
-/// Puts what stands behind all environments behind a text.
+/// Appends the end of the object, after all environments.
 fn close_object(alloc: Global, text: &mut Pieces) -> Result<(), AllocError>
     ensures { OnOk result (text.new.whole ≡ text.old.whole ++ codes "]}\n") }
 {
@@ -308,7 +321,7 @@ fn close_object(alloc: Global, text: &mut Pieces) -> Result<(), AllocError>
     put(text, piece)
 }
 
-/// Puts a piece behind a text.
+/// Appends a new piece to a text.
 fn put(text: &mut Pieces, piece: String) -> Result<(), AllocError>
     ensures { OnOk result (text.new.whole ≡ text.old.whole ++ string_bytes piece) }
 {
@@ -316,7 +329,7 @@ fn put(text: &mut Pieces, piece: String) -> Result<(), AllocError>
     text.append(place)
 }
 
-/// The lines of these answers, behind their environments' lines.
+/// The lines of a table's answers for all environments, each answer after its environment's line.
 fn answers_among<F: Fn(&Version, bool) -> bool>(
     alloc: Global,
     table: &mut Table,
@@ -358,7 +371,7 @@ fn answers_among<F: Fn(&Version, bool) -> bool>(
     Ok(text)
 }
 
-/// Puts the line of an environment behind a text.
+/// Appends the line of an environment to a text.
 fn put_line(alloc: Global, text: &mut Pieces, number: usize) -> Result<(), AllocError>
     ensures whole { OnOk result (text.new.whole ≡ text.old.whole ++ environment_line number) }
     ensures texts { OnOk result (text.new.texts ≡ text.old.texts ++ environment_line number ∷ []) }

@@ -1,8 +1,9 @@
-//! The library for C: each call of `include/reqs.h`, over the crates that answer it.
-//!
-//! A text is a pointer to bytes and their number; a `Global` takes no argument. No call requires anything,
-//! and each keeps nothing. What its reply and the caller's buffer are, its clause says in terms of the texts.
 #![tactic(auto)]
+//! The C library: each call of `include/reqs.h`, by the crates that answer it.
+//!
+//! A text is a pointer to bytes and their number; the `Global` is not an argument in C. No call has a
+//! precondition, and none keeps anything. The contract of each says what its reply and the caller's buffer
+//! are, in terms of the texts.
 
 mod lists;
 mod markers;
@@ -11,7 +12,7 @@ mod versions;
 
 ghost use Rattle.std.specs.Prelude.{◌≡◌};
 
-/// The number of this interface.
+/// The version number of this interface.
 #[unsafe(no_mangle)]
 pub extern "C" fn reqs_abi() -> u32
     ensures { result ≡ 2 }

@@ -6,7 +6,7 @@ ghost use Rattle.reqs_slices.specs.Commands.{CheckEnds, MatrixEnds, SameEnds, Co
 use reqs_reply::Reply;
 use std::alloc::Global;
 
-/// What `reqs check` answers.
+/// The answer of `reqs check` for one environment. `extras` has one extra per line.
 #[unsafe(no_mangle)]
 pub extern "C" fn reqs_check(
     alloc: Global,
@@ -22,7 +22,8 @@ pub extern "C" fn reqs_check(
     reqs_slices::check(alloc, requirements, environment, candidates, extras, out)
 }
 
-/// What `reqs matrix` answers.
+/// The answer of `reqs matrix` for many environments. `extras` has one extra per line, and no package may
+/// have more cases than `limit`.
 #[unsafe(no_mangle)]
 pub extern "C" fn reqs_matrix(
     alloc: Global,
@@ -47,7 +48,7 @@ pub extern "C" fn reqs_matrix(
     )
 }
 
-/// What `reqs same` answers.
+/// The answer of `reqs same` on two lists. No package may have more cases than `limit`.
 #[unsafe(no_mangle)]
 pub extern "C" fn reqs_same(
     alloc: Global,
@@ -61,7 +62,7 @@ pub extern "C" fn reqs_same(
     reqs_slices::same(alloc, left, right, limit, out)
 }
 
-/// What `reqs conflicts` answers.
+/// The answer of `reqs conflicts` on a list. No package may have more cases than `limit`.
 #[unsafe(no_mangle)]
 pub extern "C" fn reqs_conflicts(
     alloc: Global,
@@ -74,7 +75,7 @@ pub extern "C" fn reqs_conflicts(
     reqs_slices::conflicts(alloc, requirements, limit, out)
 }
 
-/// What `reqs normal` answers.
+/// The answer of `reqs normal`: the list in its normal form.
 #[unsafe(no_mangle)]
 pub extern "C" fn reqs_normal(alloc: Global, requirements: &[u8], out: &mut [u8]) -> Reply
     ensures { RepliesAs (NormalEnds requirements.now) out.old out.new result }

@@ -11,7 +11,7 @@ ghost use Rattle.reqs_slices.specs.Holding.{HoldEnds};
 use reqs_reply::Reply;
 use std::alloc::Global;
 
-/// The normal text of a marker, which is empty where it always holds.
+/// The normal text of a marker, which is empty if it always holds.
 #[unsafe(no_mangle)]
 pub extern "C" fn reqs_marker(alloc: Global, text: &[u8], out: &mut [u8]) -> Reply
     ensures { RepliesAs (MarkerEnds text.now) out.old out.new result }
@@ -19,7 +19,7 @@ pub extern "C" fn reqs_marker(alloc: Global, text: &[u8], out: &mut [u8]) -> Rep
     reqs_markers::marker(alloc, text, out)
 }
 
-/// The key of a marker: the same bytes exactly where two markers hold alike.
+/// The key of a marker: equal bytes exactly if two markers hold under the same valuations.
 #[unsafe(no_mangle)]
 pub extern "C" fn reqs_marker_key(alloc: Global, text: &[u8], out: &mut [u8]) -> Reply
     ensures { RepliesAs (KeyEnds text.now) out.old out.new result }
@@ -27,7 +27,7 @@ pub extern "C" fn reqs_marker_key(alloc: Global, text: &[u8], out: &mut [u8]) ->
     reqs_algebra::marker_key(alloc, text, out)
 }
 
-/// Whether a marker always holds, or never.
+/// Whether a marker always holds, never, or sometimes: `1`, `0` or `-`.
 #[unsafe(no_mangle)]
 pub extern "C" fn reqs_marker_truth(alloc: Global, text: &[u8], out: &mut [u8]) -> Reply
     ensures { RepliesAs (TruthEnds text.now) out.old out.new result }
@@ -35,7 +35,7 @@ pub extern "C" fn reqs_marker_truth(alloc: Global, text: &[u8], out: &mut [u8]) 
     reqs_algebra::marker_truth(alloc, text, out)
 }
 
-/// Whether two markers never hold together.
+/// Whether two markers never hold together: `1` or `0`.
 #[unsafe(no_mangle)]
 pub extern "C" fn reqs_markers_disjoint(
     alloc: Global,
@@ -48,7 +48,7 @@ pub extern "C" fn reqs_markers_disjoint(
     reqs_algebra::markers_disjoint(alloc, left, right, out)
 }
 
-/// Whether the right marker holds wherever the left one does.
+/// Whether the right marker holds wherever the left one does: `1` or `0`.
 #[unsafe(no_mangle)]
 pub extern "C" fn reqs_marker_implies(
     alloc: Global,
@@ -61,7 +61,7 @@ pub extern "C" fn reqs_marker_implies(
     reqs_algebra::marker_implies(alloc, left, right, out)
 }
 
-/// The normal text of the marker that holds where this one doesn't.
+/// The normal text of a marker's negation, which holds where the marker doesn't.
 #[unsafe(no_mangle)]
 pub extern "C" fn reqs_marker_negated(alloc: Global, text: &[u8], out: &mut [u8]) -> Reply
     ensures { RepliesAs (NegatedEnds text.now) out.old out.new result }
@@ -83,7 +83,7 @@ pub extern "C" fn reqs_marker_simplify_python(
     reqs_algebra::marker_simplify_python(alloc, text, lower, upper, out)
 }
 
-/// The normal text of a marker with extras, one a line, taken as present.
+/// The normal text of a marker, under the assumption that the extras, one per line, are present.
 #[unsafe(no_mangle)]
 pub extern "C" fn reqs_marker_simplify_extras(
     alloc: Global,
@@ -96,7 +96,7 @@ pub extern "C" fn reqs_marker_simplify_extras(
     reqs_algebra::marker_simplify_extras(alloc, text, extras, out)
 }
 
-/// Which markers, one a line, hold in an environment with extras.
+/// Which markers, one per line, hold in an environment with extras: a byte `1`, `0` or `?` for each line.
 #[unsafe(no_mangle)]
 pub extern "C" fn reqs_markers_hold(
     alloc: Global,

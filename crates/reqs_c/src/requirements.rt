@@ -6,7 +6,7 @@ ghost use Rattle.reqs_markers.specs.Parts.{RequirementEnds};
 use reqs_reply::Reply;
 use std::alloc::Global;
 
-/// The parts of a requirement, and where its marker stands.
+/// The parts of a requirement, and the place of its marker.
 #[unsafe(no_mangle)]
 pub extern "C" fn reqs_requirement(alloc: Global, text: &[u8], out: &mut [u8]) -> Reply
     ensures { RepliesAs (RequirementEnds text.now) out.old out.new result }

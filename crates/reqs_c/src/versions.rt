@@ -16,7 +16,7 @@ pub extern "C" fn reqs_version(alloc: Global, text: &[u8], out: &mut [u8]) -> Re
     reqs_versions::version(alloc, text, out)
 }
 
-/// The order of two versions: -1, 0 or 1; 2 where one is none, 3 for want of memory.
+/// The order of two versions: -1, 0 or 1; 2 if one is invalid, 3 when memory runs out.
 #[unsafe(no_mangle)]
 pub extern "C" fn reqs_version_order(alloc: Global, left: &[u8], right: &[u8]) -> i32
     ensures { IsOrder left.now right.now result }
@@ -24,8 +24,8 @@ pub extern "C" fn reqs_version_order(alloc: Global, left: &[u8], right: &[u8]) -
     reqs_versions::version_order(alloc, left, right)
 }
 
-/// The key of a version: its length, with the front that fits written; -2 where the text is none, -3 for want
-/// of memory.
+/// The length of a version's key, whose prefix that fits is written to `out`; -2 if the version is invalid,
+/// -3 when memory runs out.
 #[unsafe(no_mangle)]
 pub extern "C" fn reqs_version_key(alloc: Global, text: &[u8], out: &mut [u8]) -> i64
     ensures { IsKey text.now out.old out.new result }
@@ -33,7 +33,7 @@ pub extern "C" fn reqs_version_key(alloc: Global, text: &[u8], out: &mut [u8]) -
     reqs_versions::version_key(alloc, text, out)
 }
 
-/// The members of a list of specifiers, one a line.
+/// The specifiers of a list, one per line.
 #[unsafe(no_mangle)]
 pub extern "C" fn reqs_specifiers(alloc: Global, text: &[u8], out: &mut [u8]) -> Reply
     ensures { RepliesAs (SpecifiersEnd text.now) out.old out.new result }
@@ -41,7 +41,7 @@ pub extern "C" fn reqs_specifiers(alloc: Global, text: &[u8], out: &mut [u8]) ->
     reqs_versions::specifiers(alloc, text, out)
 }
 
-/// Which versions, one a line, a list of specifiers takes.
+/// Which versions, one per line, a list of specifiers accepts: a byte `1`, `0` or `?` for each line.
 #[unsafe(no_mangle)]
 pub extern "C" fn reqs_specifiers_take(
     alloc: Global,
@@ -54,7 +54,7 @@ pub extern "C" fn reqs_specifiers_take(
     reqs_versions::specifiers_take(alloc, list, versions, out)
 }
 
-/// Whether no point lies in the ranges of two lists of specifiers.
+/// Whether the ranges of two lists of specifiers are disjoint: `1` or `0`.
 #[unsafe(no_mangle)]
 pub extern "C" fn reqs_specifiers_disjoint(
     alloc: Global,
@@ -67,7 +67,7 @@ pub extern "C" fn reqs_specifiers_disjoint(
     reqs_versions::specifiers_disjoint(alloc, left, right, out)
 }
 
-/// Whether each point of the left list's range lies in the right one's.
+/// Whether the left list's range is a subset of the right one's: `1` or `0`.
 #[unsafe(no_mangle)]
 pub extern "C" fn reqs_specifiers_subset(
     alloc: Global,
@@ -80,7 +80,7 @@ pub extern "C" fn reqs_specifiers_subset(
     reqs_versions::specifiers_subset(alloc, left, right, out)
 }
 
-/// Whether no point lies in the range of a list of specifiers.
+/// Whether the range of a list of specifiers is empty: `1` or `0`.
 #[unsafe(no_mangle)]
 pub extern "C" fn reqs_specifiers_empty(alloc: Global, text: &[u8], out: &mut [u8]) -> Reply
     ensures { RepliesAs (EmptyEnds text.now) out.old out.new result }

@@ -5,7 +5,7 @@ use Rattle.reqs_ends.specs.declared.fault.RunFault.{RunFault}
 use Rattle.reqs_ends.specs.declared.fault.Status.{Status}
 use Rattle.reqs_ends.specs.declared.fault.Status.TheVariants.{Answered, Different}
 
--- how a command ended, as an exit status
+-- the exit status for a command's result
 abbrev pub status_after : Result Status RunFault → ℕ
 status_after (Ok Answered) = 0
 status_after (Ok Different) = 1

@@ -1,4 +1,4 @@
--- What becomes of the inputs that are opened, whatever opens them.
+-- The opened inputs and the result of the command on them, whatever opens them.
 use Rattle.std.specs.Prelude.{◌≡◌, ◌⊎◌, ℕ, List, [], ◌∷◌, map, Option, Result, Ok, Err}
 use Rattle.std.specs.List.{AllZip}
 use Rattle.pep508_url.specs.Vars.{Variables}
@@ -29,7 +29,7 @@ answering (Same limit) format vars extras = SameAnswersAs format limit vars
 answering (Conflicts limit) format vars extras = ConflictsAnswerAs format limit vars
 answering Normal format vars extras = NormalAnswersAs format vars
 
--- for which faults it may refuse them
+-- the faults for which a command may refuse its inputs
 abbrev pub refusing : Asked → Variables → List (List ℕ) → Refusing
 refusing Check vars extras = CheckRefuses vars extras
 refusing (Matrix limit) vars extras = MatrixRefuses limit vars extras
@@ -37,13 +37,13 @@ refusing (Same limit) vars extras = SameRefuses limit vars
 refusing (Conflicts limit) vars extras = ConflictsRefuse limit vars
 refusing Normal vars extras = NormalRefuses vars
 
--- the command that is asked for ends so, with what its readers tell of its inputs
+-- the command ends with this result, for the bytes that its readers have
 abbrev pub RunsAsked : {W : Type 0} → Asked → Format → Variables → List (List ℕ) → List (Option (List ℕ))
     → (W → Option (List ℕ)) → W → W → Result Status RunFault → Type 0
 RunsAsked asked format vars extras told contents old new result =
     Runs (answering asked format vars extras) (refusing asked vars extras) told contents old new result
 
--- ---- its inputs as they are opened
+-- ---- opened inputs
 
 -- the inputs of a command, in the order of the command line
 abbrev pub inputs_of : Asked → List Input
@@ -53,7 +53,7 @@ inputs_of (Same limit) = First ∷ Second ∷ []
 inputs_of (Conflicts limit) = First ∷ []
 inputs_of Normal = First ∷ []
 
--- a command that has its inputs, and these in the same order
+-- the command that has these inputs, and the inputs in the same order
 abbrev pub asked_of : {S : Type 0} → Opened S → Asked
 asked_of (opened.Check requirements environment candidates) = Check
 asked_of (opened.Matrix requirements environments candidates limit) = Matrix limit
@@ -69,7 +69,7 @@ readers_of (opened.Same left right limit) = left ∷ right ∷ []
 readers_of (opened.Conflicts requirements limit) = requirements ∷ []
 readers_of (opened.Normal requirements) = requirements ∷ []
 
--- readers are what was given for the inputs, each at its place
+-- readers are what was returned for the inputs, each at its place
 abbrev pub AreGiven : {S : Type 0} → (Input → Result S RunFault → Type 0) → List Input → List S → Type 0
 AreGiven gives inputs readers = AllZip (λ input reader. gives input (Ok reader)) inputs readers
 
@@ -80,9 +80,9 @@ Opens asked gives (Ok opened) =
     (asked_of opened ≡ asked) × AreGiven gives (inputs_of asked) (readers_of opened)
 Opens asked gives (Err fault) = (input : Input) × gives input (Err fault)
 
--- ---- and the command on them
+-- ---- running the command on them
 
--- the inputs as they were opened, and the command ends so with them
+-- all inputs were opened, and the command ends with this result on them
 pub record RunsAll {S W : Type 0} (asked : Asked) (format : Format)
     (gives : Input → Result S RunFault → Type 0) (remaining : S → Option (List ℕ)) (vars : Variables)
     (extras : List (List ℕ)) (contents : W → Option (List ℕ)) (old new : W)
@@ -98,7 +98,7 @@ IsRefusedBefore gives old new (Ok status) = ⊥
 IsRefusedBefore gives old new (Err fault) =
     (((input : Input) × gives input (Err fault)) ⊎ (fault ≡ Memory)) × (new ≡ old)
 
--- how the command ends with the inputs that are opened
+-- how the command ends on the inputs that are opened
 abbrev pub RunsOpened : {S W : Type 0} → Asked → Format → (Input → Result S RunFault → Type 0)
     → (S → Option (List ℕ)) → Variables → List (List ℕ) → (W → Option (List ℕ)) → W → W
     → Result Status RunFault → Type 0

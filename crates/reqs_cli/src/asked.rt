@@ -1,4 +1,6 @@
-//! What the words of the command line ask for.
+//! The command that the words of the command line name, and the words that are understood.
+//!
+//! What is asked has one type, so that opening, paths and statuses are stated once for all commands.
 
 ghost use Rattle.std.specs.Prelude.{◌≡◌, map, codes, IfOk};
 ghost use Rattle.clap.specs.Words.{first_value, found_of, one_text};
@@ -12,14 +14,14 @@ use std::alloc::{AllocError, Global};
 /// The words for formats.
 static FORMATS: [&str; 2] = ["text", "json"];
 
-/// What `--version` says beside the program's name.
+/// The version that `--version` prints after the program's name.
 const VERSION: &str = "0.1.0";
 
-/// A command, with what it is told beside inputs and extras.
+/// A command, with its arguments other than inputs and extras.
 #[derive(Clone, Copy)]
 pub enum Asked {
     Check,
-    /// No package may have more cases than the limit, here and below.
+    /// No package may have more cases than `limit`, here and in the commands below.
     Matrix { limit: u64 },
     Same { limit: u64 },
     Conflicts { limit: u64 },
@@ -27,7 +29,7 @@ pub enum Asked {
 }
 
 impl Asked {
-    /// What a command of this name asks for.
+    /// The command of this name with its arguments, or `None` if there is no such command.
     pub fn of_words(name: &str, given: &ArgMatches<'_>) -> Option<Asked>
         ensures { AsksFor name.now (found_of given.now) result }
     {
@@ -41,7 +43,7 @@ impl Asked {
         }
     }
 
-    /// A command of this name that is told a limit.
+    /// The command of this name that has a limit, or `None` if there is no such command.
     fn with_limit(name: &str, limit: u64) -> Option<Asked>
         ensures { NamesLimited name.now limit result }
     {
@@ -54,6 +56,10 @@ impl Asked {
     }
 
     /// The paths of the inputs, in the order of the command line.
+    ///
+    /// # Errors
+    ///
+    /// `AllocError` when memory runs out.
     pub fn paths<'a>(
         self,
         alloc: Global,
@@ -80,14 +86,14 @@ impl Asked {
     }
 }
 
-/// The text that stands for an argument of this name.
+/// The value of the argument with this name, empty if there is none.
 fn path_at<'a>(given: &ArgMatches<'a>, name: &str) -> &'a str
     ensures { result.now ≡ text_at (first_value (found_of given.now) name.now) }
 {
     given.get_str(name).unwrap_or("")
 }
 
-/// The format that the words name, or the usual one.
+/// The format that the words name, or the default.
 pub fn format_of(given: &ArgMatches<'_>) -> Format
     ensures { IsToldFormat (found_of given.now) result }
 {
@@ -104,7 +110,7 @@ fn format_named(word: &str) -> Format
     }
 }
 
-/// The limit that the words name, or the usual one.
+/// The limit that the words name, or the default.
 fn limit_of(given: &ArgMatches<'_>) -> Option<u64>
     ensures { LimitIs (one_text (found_of given.now) (codes "limit")) result }
 {
@@ -112,6 +118,10 @@ fn limit_of(given: &ArgMatches<'_>) -> Option<u64>
 }
 
 /// The matches of the words.
+///
+/// # Errors
+///
+/// What clap reports: the words are invalid, request help or the version, or memory ran out.
 pub fn matches<'a>(alloc: Global, words: &'a [String]) -> Result<ArgMatches<'a>, Error> {
     reqs_command(alloc)?.try_get_matches_from(words)
 }
@@ -128,7 +138,8 @@ fn reqs_command<'a>(alloc: Global) -> Result<Command<'a>, AllocError> {
     with_command(reqs, normal_command(alloc))
 }
 
-/// A command with one more below it, if that one was made: who makes commands owns none meanwhile.
+/// A command with a subcommand, if that could be made. Taking the result of making it means that no caller
+/// owns a command while it makes another.
 fn with_command<'a>(
     command: Command<'a>,
     made: Result<Command<'a>, AllocError>,
@@ -189,12 +200,12 @@ fn normal_command<'a>(alloc: Global) -> Result<Command<'a>, AllocError> {
     with_format(alloc, normal)?.arg(list_argument(alloc))
 }
 
-/// A command that is told a limit and a format.
+/// A command with an argument for a limit and one for a format.
 fn with_limit<'a>(alloc: Global, command: Command<'a>) -> Result<Command<'a>, AllocError> {
     with_format(alloc, command.arg(limit_argument(alloc))?)
 }
 
-/// A command that is told a format.
+/// A command with an argument for a format.
 fn with_format<'a>(alloc: Global, command: Command<'a>) -> Result<Command<'a>, AllocError> {
     command.arg(format_argument(alloc))
 }
@@ -226,13 +237,13 @@ fn list_argument<'a>(alloc: Global) -> Arg<'a> {
     )
 }
 
-/// The argument of an input.
+/// The required argument of an input.
 fn input<'a>(alloc: Global, name: &'a str, help: &'a str) -> Arg<'a> {
     Arg::new(alloc, name).help(help).required(true)
 }
 
-/// A command with its inputs, of which the second has this name and help, and extras. Each argument is made
-/// where it is taken, so that none is let go of where memory runs out.
+/// A command with its three inputs, of which the second has this name and help, and extras. Each argument is
+/// made where it is passed on, so that none has to be dropped when memory runs out.
 fn with_inputs<'a>(
     alloc: Global,
     command: Command<'a>,

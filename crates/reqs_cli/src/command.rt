@@ -1,4 +1,4 @@
-//! The command line: which files are opened, what is said of a fault, and the exit status.
+//! The command line: which files are opened, what is printed for a fault, and the exit status.
 
 ghost use Rattle.std.specs.Prelude.{◌≡◌, map, string_bytes, Result, IfErr, IfOk};
 ghost use Rattle.std.specs.Process.{exit_status};
@@ -23,13 +23,13 @@ use std::os::fd::AsRawFd;
 use std::process::ExitCode;
 use std::rt::Runtime;
 
-/// The exit status of a command line that is refused.
+/// The exit status of an invalid command line.
 const USAGE_STATUS: u8 = 2;
 
-/// The exit status where memory is refused.
+/// The exit status when memory runs out.
 const MEMORY_STATUS: u8 = 3;
 
-/// The path that stands for standard input.
+/// The path that means standard input.
 const STANDARD_INPUT: &str = "-";
 
 /// Runs the command that the process was started with.
@@ -62,7 +62,7 @@ where
     }
 }
 
-/// Names the word of the command line that is no text.
+/// Prints the word of the command line that is not UTF-8, and ends with status 2.
 fn refuse_word<R: Eprint>(rt: &R, word: &str) -> ExitCode
     ensures { exit_status result ≡ 2 }
 {
@@ -70,7 +70,7 @@ fn refuse_word<R: Eprint>(rt: &R, word: &str) -> ExitCode
     ExitCode::from(USAGE_STATUS)
 }
 
-/// Says what is wrong with the words, or prints the help that they ask for.
+/// Prints what is wrong with the words, or the help that they request.
 fn refuse_words<R: Runtime>(rt: &R, error: &Error) -> ExitCode {
     if error.kind() == ErrorKind::OutOfMemory {
         return end(rt, MEMORY_STATUS, "out of memory");
@@ -116,7 +116,7 @@ where
     )
 }
 
-/// Runs a command on the inputs that `opener` gives, and ends the program as that ended.
+/// Runs a command on the inputs that `opener` returns, and ends the program with the command's exit status.
 fn end_asked<R, S, F, W>(
     rt: &R,
     asked: Asked,
@@ -141,8 +141,8 @@ where
     exit_after(rt, format, &ended, paths)
 }
 
-/// Opens all inputs, in the order of the command line, and runs a command on them with the variables that
-/// stand in entries.
+/// Opens all inputs, in the order of the command line, and runs a command on them with the environment
+/// variables in `entries`.
 fn run_opened<S, F, W>(
     alloc: Global,
     asked: Asked,
@@ -166,7 +166,7 @@ where
     run_read(alloc, &mut opened, extras, &vars, format, output)
 }
 
-/// Ends the program as a command ended, and says why where it was refused.
+/// Ends the program with the exit status of the command's result, and prints why if it is a fault.
 fn exit_after<R: Runtime + AllocGlobal>(
     rt: &R,
     format: Format,
@@ -184,7 +184,7 @@ fn exit_after<R: Runtime + AllocGlobal>(
     }
 }
 
-/// Ends the program by a fault, and says why in a text.
+/// Ends the program with a fault's exit status, and prints the fault as text.
 fn end_refused<R: Runtime + AllocGlobal>(rt: &R, fault: &RunFault, paths: &[&str]) -> ExitCode
     ensures { exit_status result ≡ status_of fault.now }
 {
@@ -194,7 +194,7 @@ fn end_refused<R: Runtime + AllocGlobal>(rt: &R, fault: &RunFault, paths: &[&str
     }
 }
 
-/// Ends the program by a fault, and says why in an object.
+/// Ends the program with a fault's exit status, and prints the fault as an object.
 fn end_refused_as_object<R: Runtime + AllocGlobal>(
     rt: &R,
     fault: &RunFault,
@@ -208,7 +208,7 @@ fn end_refused_as_object<R: Runtime + AllocGlobal>(
     }
 }
 
-/// Ends the program where standard input is named as more than one input.
+/// Ends the program because standard input is named as more than one input.
 fn refuse_inputs<R: Runtime + AllocGlobal>(rt: &R, format: Format) -> ExitCode {
     let message = "standard input (-) can be one input alone";
     match format {
@@ -220,7 +220,7 @@ fn refuse_inputs<R: Runtime + AllocGlobal>(rt: &R, format: Format) -> ExitCode {
     }
 }
 
-/// Ends the program where there is no memory, with this status.
+/// Ends the program with this status because memory ran out.
 fn end_without_memory<R: Eprint>(rt: &R, format: Format, status: u8) -> ExitCode
     ensures { exit_status result ≡ status }
 {
@@ -250,20 +250,20 @@ where
     }
 }
 
-/// Says why the program ends, and ends it with this status.
+/// Prints why the program ends, and ends it with this status.
 fn end<R: Eprint>(rt: &R, status: u8, text: &str) -> ExitCode
     ensures { exit_status result ≡ status }
 {
-    // Where not even this can be said, the status still tells.
+    // If not even this can be printed, there still is the status.
     let _ = eprintln!(rt; "reqs: {text}");
     ExitCode::from(status)
 }
 
-/// Says why the program ends by a line, and ends it with this status.
+/// Prints a line that says why the program ends, and ends it with this status.
 fn end_with<R: Eprint>(rt: &R, status: u8, line: &str) -> ExitCode
     ensures { exit_status result ≡ status }
 {
-    // Where not even this can be said, the status still tells.
+    // If not even this can be printed, there still is the status.
     let _ = eprint!(rt; "{line}");
     ExitCode::from(status)
 }

@@ -1,4 +1,4 @@
-//! The inputs of a command as they are opened, and the command on them.
+//! The opened inputs of a command, and running the command on them.
 
 ghost use Rattle.std.specs.Prelude.{◌≡◌, map};
 ghost use Rattle.reqs_cli.specs.Opened.{asked_of, readers_of, Opens, RunsAsked};
@@ -41,6 +41,10 @@ pub enum Opened<S: Drop> {
 }
 
 /// Opens all inputs of a command, in the order of the command line.
+///
+/// # Errors
+///
+/// The fault of the first input that can't be opened.
 pub fn open_all<S, F>(asked: Asked, opener: F) -> Result<Opened<S>, RunFault>
 where
     S: Drop,
@@ -76,7 +80,11 @@ where
     }
 }
 
-/// Runs a command on its inputs, in a format.
+/// Runs a command on its inputs, with its output in a format.
+///
+/// # Errors
+///
+/// The fault of the command.
 pub fn run_read<S: Read + Drop, W: Write>(
     alloc: Global,
     opened: &mut Opened<S>,

@@ -1,4 +1,9 @@
 //! Where an input comes from.
+//!
+//! The system gives an opened file the lowest free descriptor. Where a standard stream is closed that is
+//! the stream's, and the file would be read in place of standard input, or written to. Such a file gets a
+//! second descriptor above the three before anything is read, and the first is closed. Opening `/dev/null`
+//! instead would need that file, and `/dev/stdin` would name it as an empty input.
 
 ghost use Rattle.std.specs.Prelude.{IfOk};
 ghost use Rattle.reqs_cli.specs.Source.{IsAboveStandard};
@@ -27,8 +32,13 @@ impl<F: Read + Drop, I: Read + Drop> Read for Source<F, I> {
 }
 
 /// Opens a file for reading, under none of the descriptors of the standard streams. A file gets the lowest
-/// descriptor that is free: where the program was started without a standard stream, that stream's own. It is
-/// moved then, so that the stream stays closed, and reading or writing it fails.
+/// free descriptor: if the program was started without a standard stream, that stream's own. The file is then
+/// moved to another descriptor, so that the stream stays closed, and reading or writing it fails.
+///
+/// # Errors
+///
+/// What opening or duplicating the file returns; `Unsupported` if the duplicate's descriptor is a standard
+/// stream's too.
 pub fn open_file<R: Files>(rt: &R, path: &str) -> io::Result<R::File>
 where
     R::File: AsRawFd,

@@ -1,4 +1,7 @@
-//! The variables of the program's environment, whose values stand in URLs.
+//! The environment variables of the process, whose values are used in URLs.
+//!
+//! Variables are read once, when the files are open: those entries that are text. The project's directory
+//! is `PWD` where that is an absolute path, and otherwise `/`.
 
 ghost use Rattle.std.specs.Prelude.{◌≡◌, map, string_bytes, option_map, IfOk};
 ghost use Rattle.pep508_url.specs.Cuts.{cut};
@@ -10,11 +13,15 @@ use pep508_url::Vars;
 use std::alloc::{AllocError, Global};
 use std::env::Env;
 
-/// The project's directory where the environment tells none.
+/// The project's root directory if the environment has none.
 const ROOT: &str = "/";
 
-/// The variables that stand in entries. The project's directory is the value of `PWD`, where that is an
-/// absolute path.
+/// The variables in some entries. The project's root directory is the value of `PWD`, if that is an absolute
+/// path, or else `/`.
+///
+/// # Errors
+///
+/// `AllocError` when memory runs out.
 pub fn variables(alloc: Global, entries: &[String]) -> Result<Vars, AllocError>
     ensures { IfOk result (λ vars. vars ≡ variables_in (map string_bytes entries.now)) }
 {
@@ -22,7 +29,11 @@ pub fn variables(alloc: Global, entries: &[String]) -> Result<Vars, AllocError>
     Vars::new(alloc, &pairs, project_root(&pairs))
 }
 
-/// The entries of the environment that are text, as `NAME=value`.
+/// The entries of the process's environment that are UTF-8, as `NAME=value`.
+///
+/// # Errors
+///
+/// `AllocError` when memory runs out.
 pub fn entries<E: Env>(env: &E, alloc: Global) -> Result<Vec<String>, AllocError> {
     let mut entries = Vec::new(alloc);
     for place in 0..usize::MAX {
@@ -36,7 +47,7 @@ pub fn entries<E: Env>(env: &E, alloc: Global) -> Result<Vec<String>, AllocError
     Ok(entries)
 }
 
-/// Names with their values.
+/// The names of the entries with their values; entries without a `=` are skipped.
 fn pairs<'a>(alloc: Global, entries: &'a [String]) -> Result<Vec<(&'a str, &'a str)>, AllocError>
     ensures { IfOk result (λ pairs.
         map (λ pair. (pair.0.now, pair.1.now)) pairs.items ≡ pairs_in (map string_bytes entries.now)) }
@@ -50,14 +61,14 @@ fn pairs<'a>(alloc: Global, entries: &'a [String]) -> Result<Vec<(&'a str, &'a s
     Ok(pairs)
 }
 
-/// A name and its value.
+/// An entry's name and value, or `None` without a `=`.
 fn pair_of(entry: &str) -> Option<(&str, &str)>
     ensures { option_map (λ pair. (pair.0.now, pair.1.now)) result ≡ cut 61 entry.now }
 {
     entry.split_once('=')
 }
 
-/// The project's directory.
+/// The project's root directory: the value of the first `PWD` that is an absolute path, or `/`.
 fn project_root<'a>(pairs: &[(&'a str, &'a str)]) -> &'a str
     ensures absolute { IsAbsolute result.now }
     ensures root { result.now ≡ root_in (map (λ pair. (pair.0.now, pair.1.now)) pairs.now) }
@@ -70,7 +81,7 @@ fn project_root<'a>(pairs: &[(&'a str, &'a str)]) -> &'a str
     ROOT
 }
 
-/// Whether a variable names the project's directory.
+/// Whether a variable names the project's root directory.
 fn is_root(name: &str, value: &str) -> bool
     ensures { result ≡ is_root (name.now, value.now) }
 {

@@ -1,15 +1,18 @@
-//! The words of the command line, each of which has to be text.
+//! The words of the command line, each of which has to be UTF-8.
+//!
+//! `std::env::args` reports neither lack of memory nor the word that is no text, so the words are read
+//! here. The program calls itself `reqs` whatever its file is called.
 
 use std::alloc::{AllocError, AllocFailed, Global};
 use std::env::{Env, FillError};
 
-/// How many bytes a word or a variable is first looked for in.
+/// The size of the first buffer for a word or a variable, in bytes.
 const FIRST_SIZE: usize = 256;
 
-/// Why the words of the command line were not read.
+/// Why the words of the command line could not be read.
 #[derive(Drop)]
 pub enum WordsFault {
-    /// The word is not UTF-8: its text, with U+FFFD for each piece that is none.
+    /// The word is not UTF-8: its text, with U+FFFD for each invalid piece.
     NotText(String),
     Memory,
 }
@@ -26,8 +29,12 @@ impl<T: Drop> From<AllocFailed<T>> for WordsFault {
     }
 }
 
-/// The words behind the program's own name, which stands first as `reqs` whatever its file is
-/// called. The first word that is no text is refused.
+/// The words of the command line: `reqs`, whatever the program's file is called, and the words after the
+/// program's name.
+///
+/// # Errors
+///
+/// `WordsFault::NotText` for the first word that is not UTF-8, `WordsFault::Memory` when memory runs out.
 pub fn words<E: Env>(env: &E, alloc: Global) -> Result<Vec<String>, WordsFault> {
     let mut words = Vec::new(alloc);
     words.push(String::from_str(alloc, "reqs")?)?;
@@ -40,7 +47,7 @@ pub fn words<E: Env>(env: &E, alloc: Global) -> Result<Vec<String>, WordsFault> 
     Ok(words)
 }
 
-/// A word as a text.
+/// A word as text.
 fn text_of(alloc: Global, bytes: &[u8]) -> Result<String, WordsFault> {
     match str::from_utf8(bytes) {
         Ok(text) => Ok(String::from_str(alloc, text)?),
@@ -48,7 +55,11 @@ fn text_of(alloc: Global, bytes: &[u8]) -> Result<String, WordsFault> {
     }
 }
 
-/// The bytes that are written into a buffer where it is long enough, if there are any to be had.
+/// The bytes that `fill` writes, into a buffer that is doubled until they fit; `None` if it has none.
+///
+/// # Errors
+///
+/// `AllocError` when memory runs out.
 pub fn filled<F: Fn(&mut [u8]) -> Result<usize, FillError>>(
     alloc: Global,
     fill: F,

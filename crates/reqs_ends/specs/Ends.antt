@@ -28,14 +28,14 @@ AreWithin inputs = AllByRecursion IsWithin inputs
 abbrev pub Answering : Type 1
 Answering = List (List ℕ) → Status → List ℕ → Type 0
 
--- for which faults it may refuse them
+-- the faults for which a command may refuse its inputs
 abbrev pub Refusing : Type 1
 Refusing = List (List ℕ) → RunFault → Type 0
 
--- How a command ends, by the bytes of its inputs, and by the writer as it was and as it is then.
--- Where it answers, the answer's text was written, and no write was made for an empty one. A write fault
--- left a front of it. A reader that failed was asked after the inputs before its own, which were within
--- their limit, and so were those before one that is too long. Want of memory may come at any time.
+-- How a command ends, by the bytes of its inputs, and by the writer before and after. If it answers, the
+-- answer's text was written, and an empty one made no write. A write fault left a prefix of it. A reader that
+-- failed was read after the inputs before its own, which were within their limit, and so were those before an
+-- input that is too long. Memory may run out at any time.
 abbrev pub EndsAs : {W : Type 0} → Answering → Refusing → List (List ℕ) → (W → Option (List ℕ)) → W → W
     → Result Status RunFault → Type 0
 EndsAs Answers Refused inputs contents old new (Ok status) =
@@ -49,14 +49,14 @@ EndsAs Answers Refused inputs contents old new (Err Write) =
 EndsAs Answers Refused inputs contents old new (Err Memory) = Unit {0}
 EndsAs Answers Refused inputs contents old new (Err fault) = AreWithin inputs × Refused inputs fault
 
--- a command ends so for some bytes of its inputs, those of each reader that tells them
+-- a command ends with this result for some bytes of its inputs, those of each reader whose bytes are known
 pub record Runs {W : Type 0} (Answers : Answering) (Refused : Refusing) (told : List (Option (List ℕ)))
     (contents : W → Option (List ℕ)) (old new : W) (result : Result Status RunFault) : Type 0 where
   pub inputs : List (List ℕ)
   pub are_told : AllZip AreAsTold told inputs
   pub ends : EndsAs Answers Refused inputs contents old new result
 
--- the text of an answer was written, and the command ends with this status; or a front of it was
+-- the text of an answer was written, and the command ends with this status; or a prefix of it was written
 abbrev pub WritesAnswer : {W : Type 0} → (W → Option (List ℕ)) → W → W → List ℕ → Status
     → Result Status RunFault → Type 0
 WritesAnswer contents old new text status (Ok ended) = (ended ≡ status) × WritesWhole contents old new text

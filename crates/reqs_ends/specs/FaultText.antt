@@ -1,4 +1,4 @@
--- What is said of a fault.
+-- The messages for faults.
 use Rattle.std.specs.Prelude.{ℕ, List, ◌++◌, codes, Option, Some}
 use Rattle.std.specs.Fmt.{◌++?◌, decimal}
 use Rattle.std.specs.Io.{StartsWith}
@@ -27,12 +27,12 @@ input_words First = codes "first input"
 input_words Second = codes "second input"
 input_words Third = codes "third input"
 
--- that a JSON value has not the shape that is wanted
+-- a JSON value doesn't have the shape wanted
 abbrev pub shape_text : JsonShape → List ℕ
 shape_text shapes.Object = codes "not an object"
 shape_text shapes.List = codes "not a list"
 
--- why a line is neither compared nor put in the normal form
+-- why a line can't be compared or has no normal form
 abbrev pub refused_text : RefusedCause → List ℕ
 refused_text refused.Url = codes "URL"
 refused_text refused.ExactEqual = codes "==="
@@ -41,36 +41,36 @@ refused_text refused.SingleQuote = codes "single quote"
 refused_text refused.DeprecatedKey = codes "deprecated key"
 refused_text refused.Bound = codes "version bound"
 
--- something about a file
+-- a message about a file
 abbrev pub input_text : List ℕ → List ℕ → List ℕ
 input_text path what = path ++ codes ": " ++ what
 
--- something about a line of a file
+-- a message about a line of a file
 abbrev pub line_text : List ℕ → ℕ → List ℕ → List ℕ
 line_text path number what = path ++ codes ": line " ++ decimal number ++ codes ": " ++ what
 
--- something about a member of an environment in a file
+-- a message about a member of an environment in a file
 abbrev pub member_text : List ℕ → ℕ → List ℕ → List ℕ → List ℕ
 member_text path index name what =
     path ++ codes ": environment " ++ decimal index ++ codes ": member " ++ name ++ codes " is " ++ what
 
--- that a package of a file has more cases than the limit
+-- a package of a file has more cases than the limit
 abbrev pub cases_text : List ℕ → ℕ → List ℕ → List ℕ
 cases_text path limit name =
     path ++ codes ": more than " ++ decimal limit ++ codes " cases for " ++ name
 
--- what is said first of a line that is no requirement: the place in bytes of what is at fault
+-- the start of the message for an invalid line: the place in bytes of what is at fault
 abbrev pub requirement_front : List ℕ → ℕ → Pep508Error Verbatim VerbatimUrlError → List ℕ
 requirement_front path number error =
     path ++ codes ": line " ++ decimal number ++ codes ", byte " ++ decimal error.excerpt.start
     ++ codes ", length " ++ decimal error.excerpt.len ++ codes "\n"
 
--- and below it what the error says; where that is the text of the crate `url`, nothing is claimed here
+-- the start and then the error's message; nothing is claimed of one of the crate `url`
 abbrev pub requirement_text : List ℕ → ℕ → Pep508Error Verbatim VerbatimUrlError → Option (List ℕ)
 requirement_text path number error =
     Some (requirement_front path number error) ++? error_text url_error_text error
 
--- what is said of a fault, by what is said of its input: that input's path, or its place
+-- the message for a fault, by the words for its input: that input's path, or its place
 abbrev pub fault_text : (Input → List ℕ) → RunFault → Option (List ℕ)
 fault_text said (Read input) = Some (input_text (said input) (codes "read fault"))
 fault_text said Write = Some (codes "write fault")
@@ -96,7 +96,7 @@ fault_text said (Candidate input number cause) =
     Some (line_text (said input) number (cause_text cause))
 fault_text said (TooManyCases input limit name) = Some (cases_text (said input) limit name)
 
--- a text that says of a line that it is no requirement says so and where first, whatever stands behind that
+-- the message for an invalid line starts with its number and place, whatever follows
 abbrev pub HasItsFront : (Input → List ℕ) → RunFault → List ℕ → Type 0
 HasItsFront said (Requirement input number error) text =
     StartsWith text (requirement_front (said input) number error)

@@ -1,4 +1,4 @@
--- Faults: which of them the texts of the inputs decide, and which may happen at any time.
+-- Faults: which of them are decided by the texts of the inputs, and which may happen at any time.
 use Rattle.std.specs.Prelude.{◌≡◌, ℕ, List, Option, Some, None, Result, Ok, Err}
 use Rattle.read_outcome.specs.Outcome.{Tells}
 use Rattle.pep508_url.specs.Vars.{Variables}
@@ -20,33 +20,34 @@ use Rattle.reqs_ends.specs.declared.fault.RunFault.TheVariants.{Read, Write, Mem
 use Rattle.reqs_ends.specs.declared.fault.RunFault.TheVariants.{Requirement, NumberAtEnd, Json, Float, Shape}
 use Rattle.reqs_ends.specs.declared.fault.RunFault.TheVariants.{Member, Version, Candidate}
 
--- 3 for a reader, the writer and memory; 2 where an input or the command line is refused
+-- 3 for a reader, the writer and memory; 2 for an invalid input or command line
 abbrev pub status_of : RunFault → ℕ
 status_of (Read input) = 3
 status_of Write = 3
 status_of Memory = 3
 status_of _ = 2
 
--- what is at fault in texts: a line that is no requirement, whatever is said of it; or what this fault says
+-- what is at fault in texts: a line that is not a requirement, whatever the message is; or what this fault
+-- names
 pub data Cause : Type 0 where
   NoRequirement : Input → ℕ → Cause
   Says : RunFault → Cause
 
--- ---- the faults by which those of readers are reported
+-- ---- the faults for the errors of readers
 
 abbrev pub of_reading : Input → ReadFault → RunFault
 of_reading input ends.Read = Read input
 of_reading input ends.TooLong = TooLong input
 of_reading input ends.Memory = Memory
 
--- of a list of requirements, by its place on the command line
+-- the fault for a list of requirements, by its place on the command line
 abbrev pub of_requirements : Input → RequirementsError → RunFault
 of_requirements input (requirements.NotText offset) = NotText input offset
 of_requirements input (requirements.Line number error) = Requirement input number error
 of_requirements input (requirements.NumberAtEnd number) = NumberAtEnd input number
 of_requirements input requirements.Memory = Memory
 
--- of an environment, by its place on the command line and its number
+-- the fault for an environment, by its place on the command line and its number
 abbrev pub of_environment : Input → ℕ → EnvironmentError → RunFault
 of_environment input index environments.Float = Float input
 of_environment input index environments.Shape = Shape input shapes.Object
@@ -59,21 +60,21 @@ of_candidates input (candidates.NotText offset) = NotText input offset
 of_candidates input (candidates.Line number cause) = Candidate input number cause
 of_candidates input candidates.Memory = Memory
 
--- ---- and what is at fault there
+-- ---- what is at fault there
 
 abbrev pub requirements_cause : Input → lines.LinesFault → Cause
 requirements_cause input (lines.NotText offset) = Says (NotText input offset)
 requirements_cause input (lines.NoRequirement number) = NoRequirement input number
 requirements_cause input (lines.NumberAtEnd number) = Says (NumberAtEnd input number)
 
--- what a fault says is at fault; want of memory says nothing
+-- what is at fault by a fault; nothing for running out of memory
 abbrev pub told_run : RunFault → Option Cause
 told_run Memory = None
 told_run (Requirement input number error) = Some (NoRequirement input number)
 told_run fault = Some (Says fault)
 
--- it is no fault of a reader or the writer, and not of an input's length; and what it says of a line that is
--- no requirement may be said of a line of that input
+-- the fault is not one of a reader or the writer, nor of an input's length; and its error of a line that is
+-- not a requirement may be that of a line of that input
 abbrev pub IsOfInputs : (Input → RequirementsError → Type 0) → RunFault → Type 0
 IsOfInputs MaySay (Read input) = ⊥
 IsOfInputs MaySay Write = ⊥
@@ -81,17 +82,17 @@ IsOfInputs MaySay (TooLong input) = ⊥
 IsOfInputs MaySay (Requirement input number error) = MaySay input (requirements.Line number error)
 IsOfInputs MaySay fault = Unit {0}
 
--- it is of texts of which none is a list of requirements
+-- the fault is in texts none of which is a list of requirements
 abbrev pub IsPlain : RunFault → Type 0
 IsPlain = IsOfInputs (λ input error. ⊥)
 
--- it is of texts of which this input's is a list of requirements: what it says of a line that is none
--- it says of this input, and is the error of some line with this number
+-- the fault is in texts of which this input's is a list of requirements: its error of an invalid line is of
+-- this input, and that of some line with this number
 abbrev pub IsOfTexts : Variables → Input → List ℕ → RunFault → Type 0
 IsOfTexts vars list bytes =
     IsOfInputs (λ input error. (input ≡ list) × IsErrorIn vars (text_lines bytes) error)
 
--- it is one of an environment's text
+-- the fault is one of an environment's text
 abbrev pub IsOfEnvironment : RunFault → Type 0
 IsOfEnvironment (Json input) = Unit {0}
 IsOfEnvironment (Float input) = Unit {0}
@@ -100,11 +101,11 @@ IsOfEnvironment (Member input index name) = Unit {0}
 IsOfEnvironment (Version input index name) = Unit {0}
 IsOfEnvironment fault = ⊥
 
--- a text is refused for what a fault of it says; want of memory may come whatever the text is
+-- a text is refused for this fault of it; memory may run out whatever the text is
 abbrev pub Refuses : {A : Type 0} → (RunFault → Type 0) → RunFault → Result A Cause → Type 0
 Refuses IsOfText fault reading = IsOfText fault × Tells (told_run fault) reading
 
--- what was returned is the reading, seen by `view`, or its fault
+-- the result is that of reading, seen by `view`, or its fault
 abbrev pub AnswersRun : {X A : Type 0} → (X → A) → Result X RunFault → Result A Cause → Type 0
 AnswersRun view (Ok x) reading = reading ≡ Ok (view x)
 AnswersRun view (Err fault) reading = Refuses IsPlain fault reading

@@ -1,4 +1,4 @@
-//! What is said of a fault where its input has no path: the input is told by its place.
+//! The texts of faults whose inputs have no paths: an input is named by its place.
 
 ghost use Rattle.std.specs.Prelude.{Some};
 ghost use Rattle.std.specs.Fmt.{DisplaysOnOk};
@@ -72,7 +72,7 @@ impl fmt::Display for RunFault {
 
 impl Error for RunFault {}
 
-/// Writes that a line is no requirement.
+/// Writes the text of an invalid requirement line.
 fn write_requirement<W: fmt::Write>(
     input: Input,
     number: usize,
@@ -86,7 +86,7 @@ fn write_requirement<W: fmt::Write>(
     write!(f, "{error}")
 }
 
-/// Writes which line is no requirement, and the place of what is at fault.
+/// Writes the number of an invalid line, and the place of what is wrong in it.
 fn write_front<W: fmt::Write>(
     input: Input,
     number: usize,
@@ -101,7 +101,7 @@ fn write_front<W: fmt::Write>(
     writeln!(f, "{input}: line {number}, byte {start}, length {len}")
 }
 
-/// Writes a fault of an environment.
+/// Writes the text of a fault of an environment.
 fn write_environment<W: fmt::Write>(fault: &RunFault, f: &mut fmt::Formatter<W>) -> fmt::Result
     requires { IsOfEnvironment fault.now }
     ensures { DisplaysOnOk W.write_str_gives f.old result (fault_text input_words fault.now) f.new }
@@ -123,7 +123,7 @@ fn write_environment<W: fmt::Write>(fault: &RunFault, f: &mut fmt::Formatter<W>)
     }
 }
 
-/// Writes a fault of a member of an environment.
+/// Writes the text of a fault of an environment's member.
 fn write_member<W: fmt::Write>(
     input: Input,
     index: usize,

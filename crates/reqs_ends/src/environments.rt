@@ -1,4 +1,7 @@
 //! A list of environments.
+//!
+//! The list is looked at as a whole before any member: floats, then that it is a list, then each element's
+//! shape. So which of these faults is reported does not depend on what members come before.
 
 ghost use Rattle.std.specs.Prelude.{◌≡◌, map, Some};
 ghost use Rattle.std.specs.List.{list_all};
@@ -15,7 +18,12 @@ use pep508_environment::MarkerEnvironment;
 use serde_json::Value;
 use std::alloc::Global;
 
-/// Reads a list of environments, numbered from 1, and lets its bytes go.
+/// Parses a list of environments, numbered from 1, and drops its bytes.
+///
+/// # Errors
+///
+/// `RunFault::NotText`, `Json`, `Float`, `Shape`, `Member` or `Version` for the first thing that is wrong,
+/// `RunFault::Memory` when memory runs out.
 pub fn read_environments(
     alloc: Global,
     input: Input,
@@ -28,7 +36,7 @@ pub fn read_environments(
     read
 }
 
-/// The environments that bytes are, a JSON list in UTF-8.
+/// The environments of a JSON list in UTF-8.
 #[tactic(auto, unfolding(crate::specs::Inputs::environments_from))]
 fn environments_from(
     alloc: Global,
@@ -40,7 +48,7 @@ fn environments_from(
     environments_of_text(alloc, input, text_of(input, bytes)?)
 }
 
-/// The environments that a JSON text is.
+/// The environments of a JSON list as text.
 fn environments_of_text(
     alloc: Global,
     input: Input,
@@ -54,7 +62,7 @@ fn environments_of_text(
     }
 }
 
-/// The environments of a value, which is to be a list of objects without floats.
+/// The environments of a value, which has to be a list of objects without floats.
 fn environments_in(
     alloc: Global,
     input: Input,
@@ -74,7 +82,7 @@ fn environments_in(
     }
 }
 
-/// The environments of a list's members, each of which is to be an object.
+/// The environments of a list's members, each of which has to be an object.
 fn environments_listed(
     alloc: Global,
     input: Input,
@@ -104,7 +112,7 @@ fn are_objects(values: &[Value]) -> bool
     true
 }
 
-/// The environments that objects are, up to the first that is none.
+/// The environments of objects, or the fault of the first that is not an environment.
 fn each_environment(
     alloc: Global,
     input: Input,

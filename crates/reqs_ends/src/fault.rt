@@ -1,4 +1,10 @@
-//! How a command ends: its statuses, its refusals and their texts.
+//! How a command ends: its statuses, its faults and their texts.
+//!
+//! What is at fault (`Cause`) is less than what a fault says: no definition decides the message and place
+//! of a line that is no requirement, so `Cause` names the line, and beside it stands that the error is that
+//! of some line with this number. A text may have words of the crate `url`, of which nothing is claimed
+//! (`fault_text` gives none). `RunFault::Extra` holds a `RefusedWord`, a text that contracts see as its
+//! bytes, so that definitions can name every fault of the inputs.
 
 ghost use Rattle.std.specs.Prelude.{◌≡◌, map, string_bytes, IfOk, IfSome};
 ghost use Rattle.std.specs.Io.{StartsWith};
@@ -41,7 +47,7 @@ impl Input {
         }
     }
 
-    /// The path of this input among those of a command line, empty where there is none.
+    /// The path of this input among those of a command line, empty if there is none.
     pub fn path<'a>(self, paths: &[&'a str]) -> &'a str
         ensures { result.now ≡ of_input (map (λ p. p.now) paths.now) self }
     {
@@ -52,16 +58,16 @@ impl Input {
     }
 }
 
-/// How a command ended that was not refused.
+/// How a command ended without a fault.
 #[derive(Clone, Copy, Debug, PartialEq, Eq)]
 pub enum Status {
     Answered,
-    /// Two lists that were compared ask for different things.
+    /// Two lists that were compared require different things.
     Different,
 }
 
 impl Status {
-    /// The exit status.
+    /// The exit status: 0 or 1.
     pub fn code(self) -> u8
         ensures answered { self ≡ Status.Answered → result ≡ 0 }
         ensures different { self ≡ Status.Different → result ≡ 1 }
@@ -73,7 +79,7 @@ impl Status {
     }
 }
 
-/// A word of the command line that is no name.
+/// A word of the command line that is not a name.
 #[derive(Debug, Drop)]
 pub struct RefusedWord {
     word: String,
@@ -89,7 +95,7 @@ impl Model for RefusedWord {
 }
 
 impl RefusedWord {
-    /// The word as it was given.
+    /// Keeps the word as it was given.
     pub fn new(word: String) -> Self
         ensures { result ≡ string_bytes word }
     {
@@ -108,32 +114,32 @@ impl fmt::Display for RefusedWord {
     }
 }
 
-/// What a JSON value is wanted to be.
+/// The shape that a JSON value has to have.
 #[derive(Clone, Copy, Debug, PartialEq, Eq)]
 pub enum JsonShape {
     Object,
     List,
 }
 
-/// Why a list of requirements is neither compared nor put in the normal form.
+/// Why a line of a list can't be compared or has no normal form.
 #[derive(Clone, Copy, Debug, PartialEq, Eq)]
 pub enum RefusedCause {
-    /// The line has a URL in place of versions.
+    /// The line requires a URL.
     Url,
-    /// A specifier asks for a version's very text, by `===`.
+    /// A specifier has `===`, which compares texts.
     ExactEqual,
-    /// A specifier has a post-release behind `<` or `>`.
+    /// A specifier has `<` or `>` with a post-release.
     PostAfterBound,
-    /// A text of the marker holds a single quote.
+    /// A string in the marker has a single quote.
     SingleQuote,
-    /// The marker asks for a key by a name that is no longer written, as `os.name`.
+    /// The marker depends on a key with a deprecated name, as `os.name`.
     DeprecatedKey,
-    /// A version of the marker is no release of epoch 0 alone.
+    /// A version in the marker is more than release numbers of epoch 0.
     Bound,
 }
 
 impl RefusedCause {
-    /// What is refused, in a few words.
+    /// The cause in a few words.
     pub fn as_str(self) -> &'static str
         ensures { result.now ≡ refused_text self }
     {
@@ -165,35 +171,35 @@ pub enum RunFault {
     Read {
         input: Input,
     },
-    /// The answer could not be written whole; a front of it was.
+    /// The output failed; only a prefix of the answer was written.
     Write,
     Memory,
     /// The input is longer than 16,777,216 bytes.
     TooLong {
         input: Input,
     },
-    /// The input stops being UTF-8 at this byte, counted from 0.
+    /// The input is not UTF-8; the offset is of the first invalid byte, from 0.
     NotText {
         input: Input,
         offset: usize,
     },
-    /// An extra of the command line is no name.
+    /// An extra of the command line is not a name.
     Extra {
         text: RefusedWord,
     },
-    /// The first line that is not taken is no requirement (PEP 508, "Grammar").
+    /// The first invalid line is not a requirement (PEP 508, "Grammar").
     Requirement {
         input: Input,
         number: usize,
         error: Pep508Error<VerbatimUrl>,
     },
-    /// The first line that is not taken has a version number that can't be raised, in its marker, or, where
-    /// lists are compared, in a specifier.
+    /// The first invalid line has a version number that can't be raised: in its marker, or, if lists are
+    /// compared, in a specifier.
     NumberAtEnd {
         input: Input,
         number: usize,
     },
-    /// The first line with something that can't be compared, or put in the normal form.
+    /// The first line that can't be compared, or has no normal form.
     Refused {
         input: Input,
         number: usize,
@@ -202,22 +208,22 @@ pub enum RunFault {
     Json {
         input: Input,
     },
-    /// The environment holds a number that JSON keeps as a float.
+    /// The environment has a number that JSON keeps as a float.
     Float {
         input: Input,
     },
-    /// A JSON value is none of the shape that is wanted.
+    /// A JSON value has another shape than the one wanted.
     Shape {
         input: Input,
         wanted: JsonShape,
     },
-    /// A member of the environment is missing or no text.
+    /// A member of the environment is missing or not a string.
     Member {
         input: Input,
         index: usize,
         name: EnvironmentMember,
     },
-    /// A member of the environment is no version.
+    /// A member of the environment is not a version.
     Version {
         input: Input,
         index: usize,
@@ -228,8 +234,8 @@ pub enum RunFault {
         number: usize,
         cause: CandidateFault,
     },
-    /// The first package of a list of requirements, by the bytes of its name, that has more cases than a
-    /// table of them may have.
+    /// The first package of a list of requirements, by the bytes of its name, that has more cases than the
+    /// limit.
     TooManyCases {
         input: Input,
         limit: u64,
@@ -258,7 +264,7 @@ impl<T: Drop> From<AllocFailed<T>> for RunFault {
 }
 
 impl RunFault {
-    /// The fault of an input that was not read whole.
+    /// The fault for an input that was not read whole.
     pub fn of_reading(input: Input, fault: ReadFault) -> Self
         ensures { result ≡ of_reading input fault }
     {
@@ -269,7 +275,7 @@ impl RunFault {
         }
     }
 
-    /// The fault of a list of requirements.
+    /// The fault for an invalid list of requirements.
     pub fn of_requirements(input: Input, fault: RequirementsError) -> Self
         ensures { result ≡ of_requirements input fault }
     {
@@ -285,7 +291,7 @@ impl RunFault {
         }
     }
 
-    /// The fault of the environment of this number in an input.
+    /// The fault for the invalid environment of this number in an input.
     pub fn of_environment(input: Input, index: usize, fault: EnvironmentError) -> Self
         ensures { result ≡ of_environment input index fault }
     {
@@ -301,7 +307,7 @@ impl RunFault {
         }
     }
 
-    /// The fault of a candidate list.
+    /// The fault for an invalid candidate list.
     pub fn of_candidates(input: Input, fault: CandidatesError) -> Self
         ensures { result ≡ of_candidates input fault }
     {
@@ -316,8 +322,7 @@ impl RunFault {
         }
     }
 
-    /// The exit status: 2 where an input or the command line is refused, 3 where memory, a reader
-    /// or the writer failed.
+    /// The exit status: 2 for an invalid input or command line, 3 if memory, a reader or the writer failed.
     pub fn status(&self) -> u8
         ensures { result ≡ status_of self.now }
     {
@@ -327,8 +332,12 @@ impl RunFault {
         }
     }
 
-    /// What is said of the fault, without a line end. The paths are those of the inputs, in the
-    /// order of the command line. Linear in the text.
+    /// The message for the fault, without a line end. `paths` are those of the inputs, in the order of the
+    /// command line. Linear in the text.
+    ///
+    /// # Errors
+    ///
+    /// `AllocError` when memory runs out.
     pub fn text(&self, alloc: Global, paths: &[&str]) -> Result<String, AllocError>
         ensures text { IfOk result (λ text.
             IfSome (fault_text (of_input (map (λ p. p.now) paths.now)) self.now)
@@ -376,7 +385,7 @@ impl RunFault {
         }
     }
 
-    /// What is said of a fault of an environment.
+    /// The message for a fault of an environment.
     fn environment_text(&self, alloc: Global, paths: &[&str]) -> Result<String, AllocError>
         requires { IsOfEnvironment self.now }
         ensures { IfOk result (λ text. IfSome (fault_text (of_input (map (λ p. p.now) paths.now)) self.now)
@@ -405,7 +414,7 @@ impl RunFault {
     }
 }
 
-/// What is said of a JSON value that has not the shape that is wanted.
+/// The words for a JSON value that doesn't have the shape wanted.
 pub(crate) fn shape_text(wanted: JsonShape) -> &'static str
     ensures { result.now ≡ shape_text wanted }
 {
@@ -415,21 +424,21 @@ pub(crate) fn shape_text(wanted: JsonShape) -> &'static str
     }
 }
 
-/// A fault of an input as a whole.
+/// The message for a fault of an input as a whole.
 fn at(alloc: Global, path: &str, fault: &str) -> Result<String, AllocError>
     ensures { IfOk result (λ text. string_bytes text ≡ input_text path.now fault.now) }
 {
     format!(in alloc; "{path}: {fault}")
 }
 
-/// A fault of a line.
+/// The message for a fault of a line.
 fn at_line(alloc: Global, path: &str, number: usize, fault: &str) -> Result<String, AllocError>
     ensures { IfOk result (λ text. string_bytes text ≡ line_text path.now number fault.now) }
 {
     format!(in alloc; "{path}: line {number}: {fault}")
 }
 
-/// A line that is no requirement.
+/// The message for an invalid requirement line.
 fn at_requirement(
     alloc: Global,
     path: &str,
@@ -447,7 +456,7 @@ fn at_requirement(
     format!(in alloc; "{path}: line {number}, byte {start}, length {len}\n{text}")
 }
 
-/// A fault of a member of an environment.
+/// The message for a fault of an environment's member.
 fn at_member(
     alloc: Global,
     path: &str,
@@ -461,7 +470,7 @@ fn at_member(
     format!(in alloc; "{path}: environment {index}: member {name} is {fault}")
 }
 
-/// A package that has more cases than the limit.
+/// The message for a package that has more cases than the limit.
 fn at_package(
     alloc: Global,
     path: &str,

@@ -6,7 +6,7 @@ ghost use Rattle.serde_json.specs.View.{view, items_view, members_view};
 
 use serde_json::{Map, Value};
 
-/// Whether a value holds anywhere a number that is kept as a float.
+/// Whether a value contains, at any depth, a number that is kept as a float.
 #[cycle(float)]
 pub fn has_float(value: &Value) -> bool
     ensures { result ≡ has_float (view value.now) }

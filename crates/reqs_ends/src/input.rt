@@ -1,4 +1,9 @@
-//! The inputs of a command: each read whole, and then read as what it is.
+//! The inputs of a command: each is read whole, and then parsed.
+//!
+//! Inputs are read whole in the order of the command line; then come the extras, and then each text in that
+//! order. Each reader of an input takes its bytes as `&mut Vec<u8>` and leaves an empty list, so the bytes
+//! are dropped once they are read as what they are. A fault's input without a path has the empty one, so
+//! that no text requires a number of paths.
 
 ghost use Rattle.std.specs.Prelude.{◌≡◌, ◌⊎◌, map, IfOk, IfErr, Some, None};
 ghost use Rattle.std.specs.Prelude.{true, false};
@@ -7,6 +12,7 @@ ghost use Rattle.std.specs.Str.Lossy.{utf8_valid_len};
 ghost use Rattle.serde_json.specs.Read.{read};
 ghost use Rattle.serde_json.specs.View.{view};
 ghost use Rattle.pep508_tree.specs.Meaning.{Extends};
+ghost use Rattle.reqtable_requirements.specs.Requirements.{SaysLine, StandsFor};
 ghost use Rattle.reqs_ends.specs.Faults.{AnswersRun};
 ghost use Rattle.reqs_ends.specs.Inputs.{ReadsInput, extra_of, extras_of, AnswersLines};
 ghost use Rattle.reqs_ends.specs.Inputs.{environment_in, environment_from, candidates_from};
@@ -17,13 +23,18 @@ use pep508_name::{ExtraName, InvalidNameError};
 use pep508_tree::Interner;
 use pep508_url::Vars;
 use reqs_io::{ASK_LIMIT, INPUT_LIMIT, read_whole};
-use reqtable_requirements::Requirements;
+use reqtable_requirements::{MarkedLines, Requirements};
 use reqtable_text::Candidates;
 use serde_json::Value;
 use std::alloc::Global;
 use std::io::Read;
 
 /// Reads an input to its end.
+///
+/// # Errors
+///
+/// `RunFault::Read` if the reader fails or never ends, `RunFault::TooLong` for an input longer than
+/// `INPUT_LIMIT`, `RunFault::Memory` when memory runs out.
 pub fn read_input<R: Read>(alloc: Global, input: Input, reader: &mut R) -> Result<Vec<u8>, RunFault>
     ensures { ReadsInput input (λ bytes. bytes.items) (R.remaining reader.old) result }
 {
@@ -33,7 +44,11 @@ pub fn read_input<R: Read>(alloc: Global, input: Input, reader: &mut R) -> Resul
     }
 }
 
-/// Reads extras as names, in order.
+/// Parses extras as names, in order.
+///
+/// # Errors
+///
+/// `RunFault::Extra` for the first that is not a name, `RunFault::Memory` when memory runs out.
 pub fn read_extras(alloc: Global, extras: &[&str]) -> Result<Vec<ExtraName>, RunFault>
     ensures { AnswersRun (λ names. names.items) result (extras_of (map (λ e. e.now) extras.now)) }
 {
@@ -44,7 +59,7 @@ pub fn read_extras(alloc: Global, extras: &[&str]) -> Result<Vec<ExtraName>, Run
     Ok(names)
 }
 
-/// Reads an extra as a name.
+/// Parses an extra as a name.
 fn read_extra(alloc: Global, extra: &str) -> Result<ExtraName, RunFault>
     ensures { AnswersRun (λ name. name) result (extra_of extra.now) }
 {
@@ -57,7 +72,11 @@ fn read_extra(alloc: Global, extra: &str) -> Result<ExtraName, RunFault>
     }
 }
 
-/// Reads a list of requirements, and lets its bytes go.
+/// Parses a list of requirements, and drops its bytes.
+///
+/// # Errors
+///
+/// The fault of the first line that is invalid, `RunFault::NotText`, or `RunFault::Memory`.
 pub fn read_requirements(
     alloc: Global,
     input: Input,
@@ -65,7 +84,8 @@ pub fn read_requirements(
     interner: &mut Interner,
     vars: &Vars,
 ) -> Result<Requirements, RunFault>
-    ensures lines { AnswersLines vars.now interner.new.nodes input bytes.old.items result }
+    ensures lines { AnswersLines (StandsFor vars.now interner.new.nodes) vars.now input bytes.old.items
+        result }
     ensures keeps { Extends interner.old.nodes interner.new.nodes }
 {
     let read = Requirements::parse(alloc, bytes, interner, vars);
@@ -76,7 +96,28 @@ pub fn read_requirements(
     }
 }
 
-/// The text that an input's bytes are.
+/// Parses a list of requirements without making marker trees, and drops its bytes.
+///
+/// # Errors
+///
+/// The fault of the first line that is invalid, `RunFault::NotText`, or `RunFault::Memory`.
+pub fn read_marked_lines(
+    alloc: Global,
+    input: Input,
+    bytes: &mut Vec<u8>,
+    vars: &Vars,
+) -> Result<MarkedLines, RunFault>
+    ensures { AnswersLines (SaysLine vars.now) vars.now input bytes.old.items result }
+{
+    let read = MarkedLines::parse(alloc, bytes, vars);
+    *bytes = Vec::new(alloc);
+    match read {
+        Ok(lines) => Ok(lines),
+        Err(refused) => Err(RunFault::of_requirements(input, refused)),
+    }
+}
+
+/// An input's bytes as text.
 pub(crate) fn text_of(input: Input, bytes: &[u8]) -> Result<&str, RunFault>
     ensures text { IfOk result (λ text. (text.now ≡ bytes.now) × (is_utf8 bytes.now ≡ true)) }
     ensures fault { IfErr result
@@ -91,7 +132,7 @@ pub(crate) fn text_of(input: Input, bytes: &[u8]) -> Result<&str, RunFault>
     }
 }
 
-/// The value that a JSON text is.
+/// The value of a JSON text.
 pub(crate) fn value_of(alloc: Global, input: Input, text: &str) -> Result<Value, RunFault>
     ensures value { IfOk result (λ value. read text.now ≡ Some (view value)) }
     ensures fault { IfErr result (λ fault.
@@ -108,7 +149,7 @@ pub(crate) fn value_of(alloc: Global, input: Input, text: &str) -> Result<Value,
     }
 }
 
-/// The environment that a value is, of this number in an input.
+/// The environment in a value, which is the one of this number in an input.
 pub(crate) fn environment_of(
     alloc: Global,
     input: Input,
@@ -123,7 +164,7 @@ pub(crate) fn environment_of(
     }
 }
 
-/// The environment that a JSON text is, of this number in an input.
+/// The environment in a JSON text, which is the one of this number in an input.
 fn environment_of_text(
     alloc: Global,
     input: Input,
@@ -138,7 +179,7 @@ fn environment_of_text(
     }
 }
 
-/// The environment that bytes are, JSON in UTF-8.
+/// The environment in JSON bytes in UTF-8.
 #[tactic(auto, unfolding(crate::specs::Inputs::environment_from))]
 fn environment_from(
     alloc: Global,
@@ -151,7 +192,12 @@ fn environment_from(
     environment_of_text(alloc, input, index, text_of(input, bytes)?)
 }
 
-/// Reads the environment of this number in an input, from 1, and lets its bytes go.
+/// Parses the environment of this number, from 1, in an input, and drops its bytes.
+///
+/// # Errors
+///
+/// `RunFault::NotText`, `Json`, `Float`, `Shape`, `Member` or `Version` for what is wrong, `RunFault::Memory`
+/// when memory runs out.
 pub fn read_environment(
     alloc: Global,
     input: Input,
@@ -165,7 +211,11 @@ pub fn read_environment(
     read
 }
 
-/// Reads a candidate list, and lets its bytes go.
+/// Parses a candidate list, and drops its bytes.
+///
+/// # Errors
+///
+/// `RunFault::NotText`, `RunFault::Candidate` for the first invalid line, or `RunFault::Memory`.
 pub fn read_candidates(
     alloc: Global,
     input: Input,

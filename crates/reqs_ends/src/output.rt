@@ -6,7 +6,11 @@ use crate::fault::{RunFault, Status};
 use reqs_io::write_whole;
 use std::io::Write;
 
-/// Writes the text of an answer whole, by no write where it is empty, and ends with its status.
+/// Writes the whole text of an answer and returns its status. An empty text makes no write.
+///
+/// # Errors
+///
+/// `RunFault::Write` if the output fails; a prefix of the text may be written then.
 pub fn write_answer<W: Write>(
     output: &mut W,
     text: &str,

@@ -1,6 +1,6 @@
 #![tactic(auto)]
-//! The two ends of a command: an input is read whole before it is looked at, and an answer is
-//! written whole once it is made.
+//! Input and output of a command: an input is read whole before it is parsed, and an answer is written whole
+//! once all of it is made.
 //!
 //! ```text
 //! let bytes = read_whole(alloc, &mut input, 16_777_216, 1 << 32)?;
@@ -15,22 +15,22 @@ use std::error::Error;
 use std::fmt;
 use std::io::{ErrorKind, Read, Write};
 
-/// The most bytes that an input may have.
+/// The greatest length of an input, in bytes.
 pub const INPUT_LIMIT: usize = 16_777_216;
 
-/// How often a reader is asked at most, interrupted asks included.
+/// The most calls of a reader, including interrupted ones.
 pub const ASK_LIMIT: u64 = 33_554_432;
 
-/// How many interrupted writes in a row are borne with.
+/// The most interrupted writes in a row.
 const INTERRUPTION_LIMIT: u32 = 1024;
 
-/// How many bytes a reader is asked for at once.
+/// The number of bytes that a reader is asked for at once.
 const BUFFER_SIZE: usize = 16_384;
 
 /// Why an input was not read whole.
 #[derive(Clone, Copy, Debug, PartialEq, Eq)]
 pub enum ReadFault {
-    /// The reader failed, or was asked too often.
+    /// The reader failed, or was called too often.
     Read,
     /// The input is longer than its limit.
     TooLong,
@@ -64,11 +64,15 @@ impl From<AllocError> for ReadFault {
     }
 }
 
-/// Reads to the end: at most `limit` bytes, in at most `asks` asks.
+/// Reads to the end: at most `limit` bytes, in at most `asks` calls of the reader.
 ///
-/// An interrupted ask is asked again. Where the reader fails or `asks` of them don't reach its end
-/// the fault is `Read`; no clause can say why a reader failed, nor how often it was asked. The time
-/// is linear in the input and the number of asks.
+/// An interrupted call is repeated. Linear in the input and the number of calls. The contract can't say why a
+/// reader failed, nor how often it was called.
+///
+/// # Errors
+///
+/// `ReadFault::Read` if the reader fails, or doesn't reach its end in `asks` calls. `ReadFault::TooLong` for
+/// an input longer than `limit`. `ReadFault::Memory` when memory runs out.
 pub fn read_whole<R: Read>(
     alloc: Global,
     reader: &mut R,
@@ -100,7 +104,7 @@ pub fn read_whole<R: Read>(
     Err(ReadFault::Read)
 }
 
-/// A write failed, took nothing, or was interrupted too often in a row.
+/// A write failed, wrote nothing, or was interrupted too often in a row.
 #[derive(Clone, Copy, Debug, PartialEq, Eq)]
 pub struct WriteFault;
 
@@ -117,10 +121,13 @@ impl fmt::Display for WriteFault {
 
 impl Error for WriteFault {}
 
-/// Writes the whole text, in as many writes as the writer wants; an empty text makes none.
+/// Writes the whole text, in as many writes as the writer needs; an empty text makes none. Linear in the text
+/// and the number of writes.
 ///
-/// After a fault a front of the text was written, of which something is left. The 1,025th
-/// interruption in a row is a fault. Linear in the text and the number of writes.
+/// # Errors
+///
+/// `WriteFault` if a write fails or writes nothing, or for the 1,025th interruption in a row. A proper prefix
+/// of the text was written then.
 pub fn write_whole<W: Write>(writer: &mut W, text: &[u8]) -> Result<(), WriteFault>
     ensures all { OnOk result (WritesWhole W.contents writer.old writer.new text.now) }
     ensures front { OnErr result (AppendsFront (W.contents writer.old) (W.contents writer.new) text.now) }
@@ -145,7 +152,7 @@ pub fn write_whole<W: Write>(writer: &mut W, text: &[u8]) -> Result<(), WriteFau
     Ok(())
 }
 
-/// What is left behind some bytes.
+/// The bytes after the first `count`.
 fn after(bytes: &[u8], count: usize) -> &[u8]
     requires { count ≤ length bytes.now }
     ensures { result.now ≡ drop count bytes.now }

@@ -1,4 +1,4 @@
--- A fault as a JSON object: of what kind it is, what is said of it, and where it is.
+-- A fault as a JSON object: its kind, its message and its place.
 use Rattle.std.specs.Prelude.{◌≡◌, ℕ, List, [], ◌++◌, codes, Option, Some, None, IfSome, option_map}
 use Rattle.std.specs.Fmt.{decimal}
 use Rattle.serde_json.specs.Data.{Data, string, object, no_members, member}
@@ -16,9 +16,9 @@ use Rattle.reqs_ends.specs.FaultText.{shape_text, refused_text, requirement_fron
 use Rattle.reqs_json.specs.declared.faults.Place.{Place}
 use Rattle.reqs_json.specs.Lines.{number_of, value_or_null, line_of}
 
--- ---- what is told of a fault
+-- ---- the parts of a fault
 
--- the kind of a fault, in a word
+-- the kind of a fault, in one word
 abbrev pub kind_of : RunFault → List ℕ
 kind_of (Read input) = codes "read"
 kind_of Write = codes "write"
@@ -37,7 +37,7 @@ kind_of (Version input index name) = codes "version"
 kind_of (Candidate input number cause) = codes "candidate"
 kind_of (TooManyCases input limit name) = codes "too-many-cases"
 
--- the input that it is of
+-- the input that a fault is in, if it is in one
 abbrev pub input_in : RunFault → Option Input
 input_in (Read input) = Some input
 input_in Write = None
@@ -56,7 +56,7 @@ input_in (Version input index name) = Some input
 input_in (Candidate input number cause) = Some input
 input_in (TooManyCases input limit name) = Some input
 
--- the line of that input
+-- the line that is at fault, if there is one
 abbrev pub line_in : RunFault → Option ℕ
 line_in (Requirement input number error) = Some number
 line_in (NumberAtEnd input number) = Some number
@@ -64,23 +64,23 @@ line_in (Refused input number cause) = Some number
 line_in (Candidate input number cause) = Some number
 line_in fault = None
 
--- the byte at which it begins, in what is read of the line, or in the input where no line is told
+-- the first byte at fault, in the line without its comment, or in the input if there is no line
 abbrev pub start_in : RunFault → Option ℕ
 start_in (NotText input offset) = Some offset
 start_in (Requirement input number error) = Some error.excerpt.start
 start_in fault = None
 
--- and of how many bytes it is
+-- the number of bytes at fault
 abbrev pub length_in : RunFault → Option ℕ
 length_in (Requirement input number error) = Some error.excerpt.len
 length_in fault = None
 
--- what is said of a member of an environment
+-- the message about a member of an environment
 abbrev pub member_message : ℕ → List ℕ → List ℕ → List ℕ
 member_message index name what =
     codes "environment " ++ decimal index ++ codes ": member " ++ name ++ codes " is " ++ what
 
--- what is said of it, behind its place; where that is the text of the crate `url`, nothing is claimed here
+-- the message for a fault, which follows its place; nothing is claimed of one of the crate `url`
 abbrev pub message_of : RunFault → Option (List ℕ)
 message_of (Read input) = Some (codes "read fault")
 message_of Write = Some (codes "write fault")
@@ -101,7 +101,7 @@ message_of (Candidate input number cause) = Some (cause_text cause)
 message_of (TooManyCases input limit name) =
     Some (codes "more than " ++ decimal limit ++ codes " cases for " ++ name)
 
--- what stands before that in a text
+-- what precedes a message in a text
 abbrev pub line_place : List ℕ → ℕ → List ℕ
 line_place path number = path ++ codes ": line " ++ decimal number ++ codes ": "
 
@@ -125,15 +125,15 @@ place_text said (TooManyCases input limit name) = said input ++ codes ": "
 
 -- ---- the object
 
--- where a fault is in its input
+-- the place of a fault in its input
 abbrev pub place_in : RunFault → Place
 place_in fault = record { line = line_in fault; start = start_in fault; len = length_in fault }
 
--- that it is nowhere
+-- no place
 abbrev pub nowhere : Place
 nowhere = record { line = None; start = None; len = None }
 
--- of what kind it is, what is said of it, and where it is; null is what it doesn't have
+-- the kind, the message and the place of a fault; null is what it doesn't have
 abbrev pub error_members : List ℕ → List ℕ → Option (List ℕ) → Place → Data
 error_members kind message path place = object (
     member (codes "kind") (string kind) (
@@ -147,17 +147,17 @@ abbrev pub error_value : List ℕ → List ℕ → Option (List ℕ) → Place �
 error_value kind message path place =
     object (member (codes "error") (error_members kind message path place) no_members)
 
--- that of a fault, by the paths of the inputs and by its message
+-- the object of a fault, by the paths of the inputs and by its message
 abbrev pub fault_value : (Input → List ℕ) → RunFault → List ℕ → Data
 fault_value said fault message =
     error_value (kind_of fault) message (option_map said (input_in fault)) (place_in fault)
 
--- the text is that object, as a line
+-- the text is the object of a fault, as a line
 abbrev pub IsFaultLine : (Input → List ℕ) → RunFault → List ℕ → Type 0
 IsFaultLine said fault text =
     (message : List ℕ) × IfSome (message_of fault) (λ wanted. message ≡ wanted)
     × (text ≡ line_of (fault_value said fault message))
 
--- a command line that is refused for what isn't in its words, with this message
+-- the object for a command line whose words are valid and which is invalid otherwise, with this message
 abbrev pub usage_value : List ℕ → Data
 usage_value message = error_value (codes "command-line") message None nowhere

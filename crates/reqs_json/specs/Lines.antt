@@ -12,11 +12,11 @@ array_of value_of xs = array (items_of (map value_of xs))
 abbrev pub number_of : ℕ → Data
 number_of n = number (unsigned n)
 
--- the lines of a text, as texts
+-- the lines of a text, as strings
 abbrev pub lines_value : List ℕ → Data
 lines_value text = array_of string (lines text)
 
--- a value, or null where there is none
+-- a value, or null if there is none
 abbrev pub value_or_null : {X : Type 0} → (X → Data) → Option X → Data
 value_or_null value_of (Some x) = value_of x
 value_or_null value_of None = null
@@ -25,6 +25,6 @@ value_or_null value_of None = null
 unfoldable pub value_text : Data → List ℕ
 value_text value = compact_text value
 
--- and the end of its line
+-- a value's text and the end of its line
 unfoldable pub line_of : Data → List ℕ
 line_of value = compact_text value ++ codes "\n"

@@ -14,13 +14,13 @@ use Rattle.reqs_json.specs.declared.format.Format.{Format}
 use Rattle.reqs_json.specs.declared.format.Format.TheVariants.{Text, Json}
 use Rattle.reqs_json.specs.Lines.{array_of, number_of, line_of}
 
--- what becomes of a package, in a word
+-- the outcome of a package, in one word
 abbrev pub outcome_word : Outcome → List ℕ
 outcome_word (Taken place) = codes "version"
 outcome_word Nothing = codes "none"
 outcome_word Direct = codes "direct"
 
--- the version that is taken, or null where none is
+-- the selected version, or null if there is none
 abbrev pub version_value : List Candidate → Outcome → Data
 version_value candidates (Taken place) =
     option_map_or (λ c. string (version_text c.version)) (slice_get candidates place) null
@@ -61,7 +61,7 @@ environment_value candidates number rows = object (
     member (codes "number") (number_of number) (
     member (codes "packages") (packages_value candidates rows) no_members))
 
--- those of environments that are numbered from this number on
+-- the objects of environments that are numbered from this number on
 abbrev pub environment_values : List Candidate → ℕ → List (List RowRecord) → Items
 environment_values candidates number [] = no_items
 environment_values candidates number (rows ∷ answers) =

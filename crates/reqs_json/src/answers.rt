@@ -1,4 +1,8 @@
 //! The rows of an answer, as a text in a format.
+//!
+//! What becomes of a package is a word next to its version, since a version could be told from `none` and
+//! `direct` only by its letters. The object of `matrix` is joined from those of its environments, each made
+//! into text by itself, so that only one environment's values are in memory besides the text.
 
 ghost use Rattle.std.specs.Prelude.{◌≡◌, ◌++◌, All, map, length, IfOk, string_bytes};
 ghost use Rattle.serde_json.specs.View.{view};
@@ -17,8 +21,12 @@ use std::alloc::{AllocError, Global};
 
 /// The rows of an answer in a format: as lines, by `Answer::text`, or as an object with an array of them.
 ///
-/// The candidates are those among which was chosen. Linear in the text; an object takes memory for the values
-/// that it is made of, beside its text.
+/// `candidates` is the list from which the answer was selected. Linear in the text; an object needs memory
+/// for its values in addition to its text.
+///
+/// # Errors
+///
+/// `AllocError` when memory runs out.
 pub fn answer_text(
     alloc: Global,
     format: Format,
@@ -54,10 +62,14 @@ fn answer_value(alloc: Global, rows: &[Row], candidates: &[Candidate]) -> Result
     json!(in alloc; {"packages": packages})
 }
 
-/// The object of an environment's answer, which has this number, behind a comma where it stands behind
-/// others.
+/// The object of an environment's number and answer, after a comma if other objects come before it.
 ///
-/// The candidates are those among which was chosen. Linear in the text, with memory for its values.
+/// `candidates` is the list from which the answer was selected. Linear in the text, with memory for its
+/// values.
+///
+/// # Errors
+///
+/// `AllocError` when memory runs out.
 pub fn environment_text(
     alloc: Global,
     later: bool,
@@ -73,7 +85,7 @@ pub fn environment_text(
     behind_comma(alloc, later, object.as_str())
 }
 
-/// A text, behind a comma where something stands before.
+/// A text, after a comma if something comes before it.
 fn behind_comma(alloc: Global, later: bool, shown: &str) -> Result<String, AllocError>
     ensures { IfOk result (λ text. string_bytes text ≡ comma_if later ++ shown.now) }
 {
@@ -82,7 +94,7 @@ fn behind_comma(alloc: Global, later: bool, shown: &str) -> Result<String, Alloc
     Ok(text)
 }
 
-/// The object of rows and a number, as a text.
+/// The text of the object of a number and rows.
 fn environment_object(
     alloc: Global,
     number: usize,
@@ -97,14 +109,14 @@ fn environment_object(
     value_text(alloc, &object)
 }
 
-/// A comma, where something stands before.
+/// A comma if something comes before, otherwise nothing.
 fn comma_if(later: bool) -> &'static str
     ensures { result.now ≡ comma_if later }
 {
     if later { "," } else { "" }
 }
 
-/// The object of rows and a number.
+/// The object of a number and rows.
 fn environment_value(
     alloc: Global,
     number: usize,
@@ -151,7 +163,7 @@ fn package_value(alloc: Global, row: &Row, candidates: &[Candidate]) -> Result<V
     })
 }
 
-/// What becomes of a package, in a word.
+/// The outcome of a package in a word: `version`, `none` or `direct`.
 fn outcome_word(outcome: Outcome) -> &'static str
     ensures { result.now ≡ outcome_word outcome }
 {
@@ -162,7 +174,7 @@ fn outcome_word(outcome: Outcome) -> &'static str
     }
 }
 
-/// The version that is taken, as a text, or null.
+/// The selected version as a string, or null.
 fn version_value(
     alloc: Global,
     outcome: Outcome,

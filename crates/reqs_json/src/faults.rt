@@ -1,4 +1,7 @@
-//! Faults as objects.
+//! Faults as JSON objects.
+//!
+//! A fault's object has its kind and place, so that no program has to find them in the message. The message
+//! is the text of the fault after its place, word for word, which a law states.
 
 ghost use Rattle.std.specs.Prelude.{◌≡◌, ◌++◌, map, codes, None, IfOk, option_map, string_bytes};
 ghost use Rattle.serde_json.specs.Data.{string};
@@ -16,19 +19,23 @@ use reqs_ends::{Input, RunFault};
 use serde_json::{Value, json};
 use std::alloc::{AllocError, Global};
 
-/// Where a fault is in its input.
+/// The place of a fault in its input.
 #[derive(Clone, Copy)]
 pub(crate) struct Place {
     /// The number of the line, from 1.
     pub(crate) line: Option<usize>,
-    /// The byte, from 0, in what is read of the line, or in the input.
+    /// The first byte at fault, from 0, in the line without its comment, or in the input if there is no line.
     pub(crate) start: Option<usize>,
-    /// How many bytes are at fault.
+    /// The number of bytes at fault.
     pub(crate) len: Option<usize>,
 }
 
-/// A fault as an object on a line: its kind, what is said of it, and its place, of which null is what it
-/// doesn't have. The paths are those of the inputs, in the order of the command line. Linear in the text.
+/// A fault as an object on a line: its kind, its message, and its place, with null for what it doesn't have.
+/// `paths` are those of the inputs, in the order of the command line. Linear in the text.
+///
+/// # Errors
+///
+/// `AllocError` when memory runs out.
 pub fn fault_line(alloc: Global, fault: &RunFault, paths: &[&str]) -> Result<String, AllocError>
     ensures { IfOk result (λ text.
         IsFaultLine (of_input (map (λ p. p.now) paths.now)) fault.now (string_bytes text)) }
@@ -44,7 +51,12 @@ pub fn fault_line(alloc: Global, fault: &RunFault, paths: &[&str]) -> Result<Str
     )
 }
 
-/// A command line that is refused for what isn't in its words, as an object on a line, with this message.
+/// The object, on a line, for a command line whose words are valid and which is invalid otherwise, with this
+/// message.
+///
+/// # Errors
+///
+/// `AllocError` when memory runs out.
 pub fn usage_line(alloc: Global, message: &str) -> Result<String, AllocError>
     ensures { IfOk result (λ text. string_bytes text ≡ line_of (usage_value message.now)) }
 {
@@ -56,14 +68,14 @@ pub fn usage_line(alloc: Global, message: &str) -> Result<String, AllocError>
     error_line(alloc, "command-line", message, None, place)
 }
 
-/// Want of memory as an object on a line, for which no memory is needed.
+/// The object, on a line, for running out of memory; needs no memory.
 pub fn memory_line() -> &'static str
     ensures { result.now ≡ line_of (error_value (kind_of Memory) (codes "out of memory") None nowhere) }
 {
     "{\"error\":{\"kind\":\"memory\",\"length\":null,\"line\":null,\"message\":\"out of memory\",\"path\":null,\"start\":null}}\n"
 }
 
-/// A fault of this kind, of which this is said, on a line.
+/// The object, on a line, of a fault of this kind with this message.
 fn error_line(
     alloc: Global,
     kind: &str,
@@ -78,7 +90,7 @@ fn error_line(
     line_of(alloc, &object)
 }
 
-/// The same as a value.
+/// The object of a fault of this kind with this message.
 fn error_value(
     alloc: Global,
     kind: &str,
@@ -93,7 +105,7 @@ fn error_value(
     json!(in alloc; {"error": members})
 }
 
-/// What is told of it.
+/// The members of a fault's object: its kind, message, path and place.
 fn error_members(
     alloc: Global,
     kind: &str,
@@ -125,7 +137,7 @@ fn number_or_null(number: Option<usize>) -> Value
     }
 }
 
-/// A text, or null.
+/// A string, or null.
 fn text_or_null(alloc: Global, text: Option<&str>) -> Result<Value, AllocError>
     ensures { IfOk result (λ value.
         view value ≡ value_or_null string (option_map (λ t. t.now) text.entry)) }
@@ -136,7 +148,7 @@ fn text_or_null(alloc: Global, text: Option<&str>) -> Result<Value, AllocError>
     }
 }
 
-/// The path of the input that a fault is of.
+/// The path of the input that a fault is in, if it is in one.
 fn path_of<'a>(fault: &RunFault, paths: &[&'a str]) -> Option<&'a str>
     ensures { option_map (λ p. p.now) result
         ≡ option_map (of_input (map (λ p. p.now) paths.now)) (input_in fault.now) }
@@ -147,7 +159,7 @@ fn path_of<'a>(fault: &RunFault, paths: &[&'a str]) -> Option<&'a str>
     }
 }
 
-/// The input that a fault is of.
+/// The input that a fault is in, if it is in one.
 fn input_in(fault: &RunFault) -> Option<Input>
     ensures { result ≡ input_in fault.now }
 {
@@ -169,7 +181,7 @@ fn input_in(fault: &RunFault) -> Option<Input>
     }
 }
 
-/// Where a fault is in its input.
+/// The place of a fault in its input.
 fn place_in(fault: &RunFault) -> Place
     ensures { result ≡ place_in fault.now }
 {
@@ -180,7 +192,7 @@ fn place_in(fault: &RunFault) -> Place
     }
 }
 
-/// The line that is at fault.
+/// The number of the line that is at fault, if there is one.
 fn line_in(fault: &RunFault) -> Option<usize>
     ensures { result ≡ line_in fault.now }
 {
@@ -193,7 +205,7 @@ fn line_in(fault: &RunFault) -> Option<usize>
     }
 }
 
-/// The byte at which a fault begins.
+/// The first byte that is at fault, if it is known.
 fn start_in(fault: &RunFault) -> Option<usize>
     ensures { result ≡ start_in fault.now }
 {
@@ -204,7 +216,7 @@ fn start_in(fault: &RunFault) -> Option<usize>
     }
 }
 
-/// How many bytes are at fault.
+/// The number of bytes that are at fault, if it is known.
 fn length_in(fault: &RunFault) -> Option<usize>
     ensures { result ≡ length_in fault.now }
 {
@@ -214,7 +226,7 @@ fn length_in(fault: &RunFault) -> Option<usize>
     }
 }
 
-/// The kind of a fault, in a word.
+/// The kind of a fault, in one word.
 fn kind_of(fault: &RunFault) -> &'static str
     ensures { result.now ≡ kind_of fault.now }
 {

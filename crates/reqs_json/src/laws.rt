@@ -1,4 +1,4 @@
-//! Laws over the definitions. The functions do nothing: each one's contract is its law.
+//! A law about messages. The function does nothing: its contract is its law.
 
 ghost use Rattle.std.specs.Prelude.{◌≡◌, ℕ, List, Some};
 ghost use Rattle.std.specs.Fmt.{◌++?◌};
@@ -7,7 +7,7 @@ ghost use Rattle.reqs_ends.specs.declared.fault.Input.{Input};
 ghost use Rattle.reqs_ends.specs.declared.fault.RunFault.{RunFault};
 ghost use Rattle.reqs_json.specs.Faults.{message_of, place_text};
 
-/// The text of a fault is its message behind its place.
+/// The text of a fault is its place followed by its message.
 pub fn a_text_is_the_message_behind_a_place()
     ensures { (said : Input → List ℕ) (fault : RunFault) →
         fault_text said fault ≡ (Some (place_text said fault) ++? message_of fault) }

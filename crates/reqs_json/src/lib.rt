@@ -1,5 +1,9 @@
-//! What the commands of `reqs` answer, and why they don't, as JSON objects on one line.
 #![tactic(auto)]
+//! The answers and faults of the commands of `reqs`, as JSON objects on one line.
+//!
+//! All JSON is written by `serde_json`, whose `Value` sorts an object's members by their keys' bytes: that
+//! order is the documented one, and no code here quotes anything. An object has all its keys; `null` is
+//! what it lacks.
 
 mod answers;
 mod faults;

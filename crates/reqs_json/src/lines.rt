@@ -11,7 +11,11 @@ use pep508_name::ExtraName;
 use serde_json::Value;
 use std::alloc::{AllocError, Global};
 
-/// The text of a value on one line, without blanks between its parts, and the line's end. Linear in the text.
+/// The text of a value on one line, without blanks between its parts, and a line feed. Linear in the text.
+///
+/// # Errors
+///
+/// `AllocError` when memory runs out.
 #[tactic(auto, unfolding(crate::specs::Lines::line_of))]
 pub fn line_of(alloc: Global, value: &Value) -> Result<String, AllocError>
     requires { has_float (view value.now) ≡ false }
@@ -31,7 +35,7 @@ pub(crate) fn value_text(alloc: Global, value: &Value) -> Result<String, AllocEr
     value.to_string(alloc)
 }
 
-/// Names as an array of texts.
+/// Names as an array of strings.
 pub(crate) fn names_value(alloc: Global, names: &[ExtraName]) -> Result<Value, AllocError>
     ensures { IfOk result (λ value. view value ≡ array_of string names.now) }
 {
@@ -43,6 +47,10 @@ pub(crate) fn names_value(alloc: Global, names: &[ExtraName]) -> Result<Value, A
 }
 
 /// Numbers as an array.
+///
+/// # Errors
+///
+/// `AllocError` when memory runs out.
 pub fn numbers_value(alloc: Global, numbers: &[usize]) -> Result<Value, AllocError>
     ensures { IfOk result (λ value. view value ≡ array_of number_of numbers.now) }
 {
@@ -53,7 +61,11 @@ pub fn numbers_value(alloc: Global, numbers: &[usize]) -> Result<Value, AllocErr
     Ok(Value::Array(values))
 }
 
-/// The lines of a text, without their ends, as an array of texts.
+/// The lines of a text, without their ends, as an array of strings.
+///
+/// # Errors
+///
+/// `AllocError` when memory runs out.
 pub fn lines_value(alloc: Global, text: &str) -> Result<Value, AllocError>
     ensures { IfOk result (λ value. view value ≡ lines_value text.now) }
 {
@@ -68,7 +80,7 @@ fn lines_of(alloc: Global, text: &str) -> Result<Vec<&str>, AllocError>
     text.lines().collect(alloc)
 }
 
-/// Texts as an array.
+/// Texts as an array of strings.
 fn texts_value(alloc: Global, texts: &[&str]) -> Result<Value, AllocError>
     ensures { IfOk result (λ value. view value ≡ array_of string (map (λ t. t.now) texts.now)) }
 {

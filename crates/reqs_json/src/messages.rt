@@ -1,4 +1,4 @@
-//! What is said of a fault, without its place.
+//! The messages for faults, without their places.
 
 ghost use Rattle.std.specs.Prelude.{◌≡◌, ◌++◌, codes, string_bytes, IfOk, IfSome};
 ghost use Rattle.std.specs.Fmt.{decimal};
@@ -12,7 +12,7 @@ use pep508_name::PackageName;
 use reqs_ends::{JsonShape, RunFault};
 use std::alloc::{AllocError, Global};
 
-/// What is said of a fault behind its place, as `RunFault::text` says it.
+/// The message for a fault: what follows its place in `RunFault::text`.
 pub(crate) fn message_of(alloc: Global, fault: &RunFault) -> Result<String, AllocError>
     ensures { IfOk result (λ text.
         IfSome (message_of fault.now) (λ wanted. string_bytes text ≡ wanted)) }
@@ -33,7 +33,7 @@ pub(crate) fn message_of(alloc: Global, fault: &RunFault) -> Result<String, Allo
     }
 }
 
-/// What is said of a fault of an environment.
+/// The message for a fault of an environment.
 fn environment_message(alloc: Global, fault: &RunFault) -> Result<String, AllocError>
     requires { IsOfEnvironment fault.now }
     ensures { IfOk result (λ text.
@@ -53,7 +53,7 @@ fn environment_message(alloc: Global, fault: &RunFault) -> Result<String, AllocE
     }
 }
 
-/// What is said of a package that has more cases than the limit.
+/// The message for a package that has more cases than the limit.
 fn cases_message(alloc: Global, limit: u64, name: &PackageName) -> Result<String, AllocError>
     ensures { IfOk result (λ text. string_bytes text
         ≡ codes "more than " ++ decimal limit ++ codes " cases for " ++ name.now) }
@@ -61,7 +61,7 @@ fn cases_message(alloc: Global, limit: u64, name: &PackageName) -> Result<String
     format!(in alloc; "more than {limit} cases for {name}")
 }
 
-/// What is said of a JSON value that has not the shape that is wanted.
+/// The message for a JSON value that doesn't have the shape wanted.
 fn shape_message(alloc: Global, wanted: JsonShape) -> Result<String, AllocError>
     ensures { IfOk result (λ text. string_bytes text ≡ shape_text wanted) }
 {
@@ -71,7 +71,7 @@ fn shape_message(alloc: Global, wanted: JsonShape) -> Result<String, AllocError>
     }
 }
 
-/// What is said of a member of an environment.
+/// The message for a fault of an environment's member.
 fn member_message(
     alloc: Global,
     index: usize,

@@ -1,4 +1,4 @@
--- What `same` does, from the bytes of two lists to those of its answer.
+-- The command `same`, from the bytes of two lists to those of its answer.
 use Rattle.std.specs.Prelude.{◌≡◌, ◌⊎◌, ℕ, true, false, List, [], ◌∷◌, ◌++◌, codes, unwrap_or, Option, Result}
 use Rattle.std.specs.Prelude.{Err}
 use Rattle.serde_json.specs.Data.{Data, boolean, string, object, no_members, member}
@@ -31,7 +31,7 @@ use Rattle.reqs_ends.specs.declared.fault.Status.TheVariants as status
 use Rattle.reqs_ends.specs.Ends.{Runs}
 use Rattle.reqs_lists.specs.Lists.{IsOfLists, two_lists, IsRead, RefusesLists}
 
--- what two lists ask for
+-- what two lists require
 abbrev pub Lists : Type 0
 Lists = List LineRecord × List LineRecord
 
@@ -45,7 +45,7 @@ abbrev pub difference_text : List ℕ → Diagram Question → List ℕ
 difference_text name diagram =
     codes "no\n" ++ (name ++ (codes "\n" ++ (place_text diagram ++ codes "\n")))
 
--- the same as objects; null is the marker of what is everywhere
+-- the answers as objects; null is the marker of a difference that is everywhere
 abbrev pub same_value : Data
 same_value = object (member (codes "same") (boolean true) no_members)
 
@@ -55,7 +55,7 @@ difference_value name diagram = object (
     member (codes "package") (string name) (
     member (codes "same") (boolean false) no_members)))
 
--- and in a format
+-- the answers in a format
 abbrev pub same_in : Format → List ℕ
 same_in Text = codes "yes\n"
 same_in Json = line_of same_value
@@ -64,10 +64,10 @@ abbrev pub difference_in : Format → List ℕ → Diagram Question → List ℕ
 difference_in Text name diagram = difference_text name diagram
 difference_in Json name diagram = line_of (difference_value name diagram)
 
--- ---- what lists are answered with
+-- ---- the result for lists
 
--- the first package that differs, and the one diagram that asks nothing in vain, has each version in its
--- shortest spelling, and holds just where the first two cases meet that require different things
+-- the first package that differs, and the one diagram that has no needless question, has each version in its
+-- shortest spelling, and holds exactly where the first two cases hold together that require different things
 pub record IsToldDifference (lists : Lists) (name : List ℕ) (diagram : Diagram Question) : Type 0 where
   pub nodes : List NodeRecord
   pub tree : Tree
@@ -76,7 +76,7 @@ pub record IsToldDifference (lists : Lists) (name : List ℕ) (diagram : Diagram
   pub short : HasShortVersions diagram
   pub means : (v : Valuation) → truth diagram v ≡ holds nodes tree v
 
--- nothing is in the way of an answer, and both require the same, or differ first so
+-- both lists can be compared, and they require the same, or this is their first difference
 abbrev pub IsSameAnswer : Format → ℕ → Lists → Status → List ℕ → Type 0
 IsSameAnswer format limit lists ended text =
     MayCompare limit lists.0 lists.1
@@ -101,7 +101,7 @@ fault_of limit (errors.Line side number why) = line_fault (input_of side) number
 fault_of limit (errors.TooManyCases side name) = run.TooManyCases (input_of side) limit name
 fault_of limit errors.Memory = run.Memory
 
--- the fault tells why lists that are read can't be compared
+-- the fault is the reason why parsed lists can't be compared
 abbrev pub CantBeCompared : ℕ → Lists → RunFault → Type 0
 CantBeCompared limit lists fault =
     (error : SameError) × (fault ≡ fault_of limit error)
@@ -117,7 +117,7 @@ abbrev pub SameRefuses : ℕ → Variables → List (List ℕ) → RunFault → 
 SameRefuses limit vars inputs fault =
     RefusesLists (IsOfLists vars inputs) (CantBeCompared limit) (two_lists vars inputs) fault
 
--- `same` ends so, with what its readers tell of the left and the right list
+-- `same` ends with this result, for the bytes that its readers have of the left and the right list
 abbrev pub RunsSame : {W : Type 0} → Format → ℕ → Variables → Option (List ℕ) → Option (List ℕ)
     → (W → Option (List ℕ)) → W → W → Result Status RunFault → Type 0
 RunsSame format limit vars left right contents old new result =

@@ -1,4 +1,4 @@
--- What `conflicts` does, from the bytes of a list to those of its conflicts.
+-- The command `conflicts`, from the bytes of a list to those of its conflicts.
 use Rattle.std.specs.Prelude.{◌≡◌, ℕ, Bool, true, false, List, [], ◌∷◌, ◌++◌, map, codes, Option, Result, Ok}
 use Rattle.std.specs.List.{flat_map, join_with_byte}
 use Rattle.std.specs.Fmt.{decimal}
@@ -20,7 +20,7 @@ use Rattle.reqs_lists.specs.Lists.{IsOfLists, one_list, IsRead, RefusesLists}
 
 -- ---- the text
 
--- behind the lines of a conflict, where some specifier of them has a pre-release
+-- what follows the lines of a conflict, if some specifier of them names a pre-release
 abbrev pub prerelease_text : Bool → List ℕ
 prerelease_text true = codes " pre"
 prerelease_text false = []
@@ -34,7 +34,7 @@ conflict_text found =
 abbrev pub conflicts_text : List ConflictRecord → List ℕ
 conflicts_text found = flat_map conflict_text found
 
--- the same as an object
+-- a conflict as an object
 abbrev pub conflict_value : ConflictRecord → Data
 conflict_value found = object (
     member (codes "lines") (array_of number_of found.numbers) (
@@ -44,21 +44,21 @@ conflict_value found = object (
 abbrev pub conflicts_value : List ConflictRecord → Data
 conflicts_value found = object (member (codes "conflicts") (array_of conflict_value found) no_members)
 
--- and in a format
+-- the conflicts in a format
 abbrev pub conflicts_in : Format → List ConflictRecord → List ℕ
 conflicts_in Text found = conflicts_text found
 conflicts_in Json found = line_of (conflicts_value found)
 
--- ---- what lines are answered with
+-- ---- the result for lines
 
--- the text of all conflicts, where no package has more cases than the limit
+-- the text of all conflicts, if no package has more cases than the limit
 abbrev pub IsConflictsAnswer : Format → ℕ → List LineRecord → Status → List ℕ → Type 0
 IsConflictsAnswer format limit lines ended text =
     (ended ≡ status.Answered)
     × ((found : List ConflictRecord) × FindsConflicts (λ all. all) limit lines (Ok found)
     × (text ≡ conflicts_in format found))
 
--- the fault names the first package that has more
+-- the fault names the first package that has more cases than the limit
 abbrev pub HasTooManyCases : ℕ → List LineRecord → RunFault → Type 0
 HasTooManyCases limit lines fault =
     (name : List ℕ) × (fault ≡ run.TooManyCases First limit name) × IsFirstTooMany limit lines name
@@ -73,7 +73,7 @@ abbrev pub ConflictsRefuse : ℕ → Variables → List (List ℕ) → RunFault 
 ConflictsRefuse limit vars inputs fault =
     RefusesLists (IsOfLists vars inputs) (HasTooManyCases limit) (one_list vars inputs) fault
 
--- `conflicts` ends so, with what its reader tells of the requirements
+-- `conflicts` ends with this result, for the bytes that its reader has of the requirements
 abbrev pub RunsConflicts : {W : Type 0} → Format → ℕ → Variables → Option (List ℕ)
     → (W → Option (List ℕ)) → W → W → Result Status RunFault → Type 0
 RunsConflicts format limit vars requirements contents old new result =

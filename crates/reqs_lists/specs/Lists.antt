@@ -1,4 +1,4 @@
--- What the texts of requirement lists are, or what is at fault there; and how a command on them ends.
+-- The parsed texts of requirement lists, or what is at fault in them; and how a command on them ends.
 use Rattle.std.specs.Prelude.{◌≡◌, ◌⊎◌, ℕ, List, Result, Ok, Err}
 use Rattle.std.specs.List.{AllZip}
 use Rattle.std.specs.String.{string_bytes}
@@ -17,8 +17,8 @@ use Rattle.reqs_ends.specs.Faults.{Cause, IsOfInputs, Refuses}
 use Rattle.reqs_ends.specs.Inputs.{◌>>=◌, lines_from}
 use Rattle.reqs_lists.specs.declared.answer.Answer.{Answer}
 
--- it is of texts of which each is a list of requirements: what it says of a line that is none is the error
--- of some line with this number of the input that it names
+-- the fault is in texts each of which is a list of requirements: its error of an invalid line is that of some
+-- line with this number of the input that it names
 abbrev pub IsOfLists : Variables → List (List ℕ) → RunFault → Type 0
 IsOfLists vars inputs =
     IsOfInputs (λ input error. IsErrorIn vars (text_lines (of_input inputs input)) error)
@@ -29,7 +29,7 @@ IsOfLists vars inputs =
 abbrev pub one_list : Variables → List (List ℕ) → Result (List LineRecord) Cause
 one_list vars inputs = lines_from vars First (of_input inputs First)
 
--- the lines of a right list behind those of the left one
+-- the lines of a left list and of a right one
 abbrev pub with_right : Variables → List ℕ → List LineRecord
     → Result (List LineRecord × List LineRecord) Cause
 with_right vars right left = do
@@ -41,7 +41,7 @@ abbrev pub two_lists : Variables → List (List ℕ) → Result (List LineRecord
 two_lists vars inputs =
     lines_from vars First (of_input inputs First) >>= with_right vars (of_input inputs Second)
 
--- lines of a left and a right list stand for those of some texts
+-- lines of a left and a right list represent those of some texts
 pub record AreBothRead (nodes : List NodeRecord) (left right : List Line) : Type 0 where
   pub vars : Variables
   pub said : List LineRecord
@@ -49,30 +49,30 @@ pub record AreBothRead (nodes : List NodeRecord) (left right : List Line) : Type
   pub reads_left : AllZip (StandsFor vars nodes) left said
   pub reads_right : AllZip (StandsFor vars nodes) right others
 
--- lists are read as what has this property
+-- lists are parsed to values with this property
 abbrev pub IsRead : {A : Type 0} → Result A Cause → (A → Type 0) → Type 0
 IsRead {A} lists Holds = (read : A) × (lists ≡ Ok read) × Holds read
 
--- ---- answering
+-- ---- answers
 
--- what may be answered on lists that are read, a status and a text; and for which faults they may be refused
+-- what may be answered on parsed lists, a status and a text; and the faults for which they may be refused
 abbrev pub Answered : Type 0 → Type 1
 Answered A = A → Status → List ℕ → Type 0
 
 abbrev pub Refused : Type 0 → Type 1
 Refused A = A → RunFault → Type 0
 
--- lists that are refused: for what isn't read, by a fault of which this holds, or once all are read
+-- lists are refused: for what can't be parsed, by a fault of which this holds, or once all are parsed
 abbrev pub RefusesLists : {A : Type 0} → (RunFault → Type 0) → Refused A → Result A Cause → RunFault → Type 0
 RefusesLists IsOne Declines lists fault =
     Refuses IsOne fault lists ⊎ IsRead lists (λ read. Declines read fault)
 
--- what is answered on lists that are read, before it is written; want of memory may come at any time
+-- the result for parsed lists, before it is written; memory may run out at any time
 abbrev pub Gives : {A : Type 0} → Answered A → Refused A → A → Result Answer RunFault → Type 0
 Gives Answers Declines read (Ok answer) = Answers read answer.status (string_bytes answer.text)
 Gives Answers Declines read (Err fault) = (fault ≡ Memory) ⊎ Declines read fault
 
--- and on the texts of lists
+-- the result for the texts of lists
 abbrev pub AnswersLists : {A : Type 0} → (RunFault → Type 0) → Answered A → Refused A → Result A Cause
     → Result Answer RunFault → Type 0
 AnswersLists IsOne Answers Declines lists (Ok answer) =

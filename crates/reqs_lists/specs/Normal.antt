@@ -1,4 +1,4 @@
--- What `normal` does, from the bytes of a list to those of its normal text.
+-- The command `normal`, from the bytes of a list to those of its normal text.
 use Rattle.std.specs.Prelude.{◌≡◌, ℕ, List, [], ◌∷◌, codes, Option, Result}
 use Rattle.serde_json.specs.Data.{Data, object, no_members, member}
 use Rattle.pep508_url.specs.Vars.{Variables}
@@ -19,7 +19,7 @@ use Rattle.reqs_ends.specs.declared.fault.Status.TheVariants as status
 use Rattle.reqs_ends.specs.Ends.{Runs}
 use Rattle.reqs_lists.specs.Lists.{IsOfLists, one_list, IsRead, RefusesLists}
 
--- a cause by which a command is refused
+-- the cause of the command's fault for this cause
 abbrev pub refused_for : NormalCause → RefusedCause
 refused_for cause.Url = refused.Url
 refused_for cause.SingleQuote = refused.SingleQuote
@@ -30,7 +30,7 @@ refused_for cause.Bound = refused.Bound
 abbrev pub normal_value : List ℕ → Data
 normal_value text = object (member (codes "requirements") (lines_value text) no_members)
 
--- and in a format
+-- a normal text in a format
 abbrev pub normal_in : Format → List ℕ → List ℕ
 normal_in Text text = text
 normal_in Json text = line_of (normal_value text)
@@ -41,7 +41,7 @@ IsNormalAnswer format lines ended text =
     (ended ≡ status.Answered)
     × ((normal : List ℕ) × IsNormalText lines normal × (text ≡ normal_in format normal))
 
--- the fault names the first line that has none, and why
+-- the fault names the first line without a normal text, and the cause
 abbrev pub HasNoNormal : List LineRecord → RunFault → Type 0
 HasNoNormal lines fault =
     (number : ℕ) × (why : NormalCause) × (fault ≡ run.Refused First number (refused_for why))
@@ -54,7 +54,7 @@ NormalAnswersAs format vars inputs ended text =
 abbrev pub NormalRefuses : Variables → List (List ℕ) → RunFault → Type 0
 NormalRefuses vars inputs = RefusesLists (IsOfLists vars inputs) HasNoNormal (one_list vars inputs)
 
--- `normal` ends so, with what its reader tells of the requirements
+-- `normal` ends with this result, for the bytes that its reader has of the requirements
 abbrev pub RunsNormal : {W : Type 0} → Format → Variables → Option (List ℕ) → (W → Option (List ℕ)) → W → W
     → Result Status RunFault → Type 0
 RunsNormal format vars requirements contents old new result =

@@ -1,8 +1,8 @@
-//! What a command answers, before it is written.
+//! The answer of a command, before it is written.
 
 use reqs_ends::Status;
 
-/// The text of an answer, and how the command ends that writes it.
+/// The text of an answer, and the status with which the command ends after writing it.
 #[derive(Drop)]
 pub struct Answer {
     pub status: Status,

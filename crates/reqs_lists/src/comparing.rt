@@ -1,4 +1,7 @@
 //! `same`: whether two lists require the same.
+//!
+//! The marker of a difference that is everywhere is null in JSON: a text that is no marker would be taken
+//! for one.
 
 ghost use Rattle.std.specs.Prelude.{◌≡◌, ◌≢◌, ◌∷◌, ◌++◌, [], List, codes, IfErr, IfOk, string_bytes};
 ghost use Rattle.std.specs.List.{AllZip};
@@ -32,17 +35,24 @@ use serde_json::{Value, json};
 use std::alloc::{AllocError, Global};
 use std::io::{Read, Write};
 
-/// What stands for the text of a marker that always holds.
+/// What is written for a marker that always holds, which has no text.
 const EVERYWHERE: &str = "all environments";
 
-/// Reads two lists of requirements, and writes `yes` where they require the same of every package in every
-/// environment with any extras. Else it writes three lines, `no`, the first package that differs, and the
-/// marker of where its first difference is, or `all environments` where that always holds; and ends with
-/// `Status::Different`. By `reqtable_compare::same`. Or it writes one object (`docs/JSON.md`).
+/// Reads two lists of requirements, and writes `yes` if they require the same of every package in every
+/// environment with any extras, as decided by `reqtable_compare::same`. Otherwise it writes three lines:
+/// `no`, the first package that differs, and the marker of its first difference, or `all environments` if
+/// that always holds; and ends with `Status::Different`. That marker may hold for no real interpreter. In the
+/// other format it writes one object (`docs/COMMANDS.md`).
 ///
-/// Both lists are read whole, the left one first, and then as what they are, the left one first. Lists are
-/// refused that have something which can't be compared, and then those with a package that has more cases
-/// than the limit. The text is made whole before the first write.
+/// Both lists are read whole, and then parsed, the left one first. The whole text is made before the first
+/// write.
+///
+/// # Errors
+///
+/// A `RunFault` for a list that can't be read whole or is invalid, then for the first line that can't be
+/// compared, and then `RunFault::TooManyCases` for a package that has more cases than `limit`; nothing is
+/// written then. `RunFault::Memory` when memory runs out, before the first write. `RunFault::Write` if the
+/// output fails.
 pub fn same<L: Read, R: Read, W: Write>(
     alloc: Global,
     left: &mut L,
@@ -63,7 +73,7 @@ pub fn same<L: Read, R: Read, W: Write>(
     write_answer(output, answer.text.as_str(), answer.status)
 }
 
-/// The answer on two lists, whose bytes are let go once they are read.
+/// The answer on two lists. Drops the bytes of each once they are parsed.
 fn same_answer(
     alloc: Global,
     left: &mut Vec<u8>,
@@ -82,7 +92,7 @@ fn same_answer(
     same_of(alloc, &left, &right, &mut interner, limit, format)
 }
 
-/// The answer on requirements.
+/// The answer on two parsed lists.
 fn same_of(
     alloc: Global,
     left: &Requirements,
@@ -110,7 +120,7 @@ fn same_of(
     }
 }
 
-/// That two lists require the same, in a format.
+/// The text, in a format, for two lists that require the same.
 fn same_in(alloc: Global, format: Format) -> Result<String, AllocError>
     ensures { IfOk result (λ text. string_bytes text ≡ same_in format) }
 {
@@ -120,7 +130,7 @@ fn same_in(alloc: Global, format: Format) -> Result<String, AllocError>
     }
 }
 
-/// The same as an object, on a line.
+/// The object, on a line, for two lists that require the same.
 fn same_line(alloc: Global) -> Result<String, AllocError>
     ensures { IfOk result (λ text. string_bytes text ≡ line_of same_value) }
 {
@@ -128,14 +138,14 @@ fn same_line(alloc: Global) -> Result<String, AllocError>
     line_of(alloc, &object)
 }
 
-/// The same as an object.
+/// The object for two lists that require the same.
 fn same_value(alloc: Global) -> Result<Value, AllocError>
     ensures { IfOk result (λ value. view value ≡ same_value) }
 {
     json!(in alloc; {"same": true})
 }
 
-/// The text of a difference in a format, which is where the tree holds.
+/// The text of a difference in a format: the package, and where the tree holds.
 #[tactic(auto, using(crate::proofs::Trees::canonical, crate::proofs::Trees::short))]
 fn difference_in(
     alloc: Global,
@@ -191,7 +201,7 @@ fn difference_value(
     })
 }
 
-/// The text of where a tree holds, or null where that is everywhere.
+/// The text of a tree, or null if it always holds.
 fn marker_value(alloc: Global, tree: MarkerTree, interner: &Interner) -> Result<Value, AllocError>
     requires { IsTree interner.now.nodes tree }
     ensures { IfOk result (λ value.
@@ -220,7 +230,7 @@ fn difference_text(
     }
 }
 
-/// The lines of a difference, of which the last says where it is.
+/// The lines of a difference: `no`, the package and the place.
 fn difference_lines(alloc: Global, name: &PackageName, place: &str) -> Result<String, AllocError>
     ensures { IfOk result (λ text. string_bytes text
         ≡ codes "no\n" ++ (name.now ++ (codes "\n" ++ (place.now ++ codes "\n")))) }
@@ -228,7 +238,7 @@ fn difference_lines(alloc: Global, name: &PackageName, place: &str) -> Result<St
     format!(in alloc; "no\n{name}\n{place}\n")
 }
 
-/// Why the lists are refused.
+/// The fault for two lists that were not compared.
 fn fault_of(error: SameError, limit: u64) -> RunFault
     ensures { result ≡ fault_of limit error }
 {
@@ -257,7 +267,7 @@ fn input_of(side: Side) -> Input
     }
 }
 
-/// Why a line is refused.
+/// The fault for a line that can't be compared.
 fn line_fault(input: Input, number: usize, cause: LineCause) -> RunFault
     ensures { result ≡ line_fault input number cause }
 {

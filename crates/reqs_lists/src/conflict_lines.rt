@@ -16,6 +16,10 @@ use std::alloc::{AllocError, Global};
 use std::fmt::Write;
 
 /// The text of conflicts in a format.
+///
+/// # Errors
+///
+/// `AllocError` when memory runs out.
 pub fn conflicts_in(
     alloc: Global,
     format: Format,
@@ -42,7 +46,7 @@ fn conflicts_text(alloc: Global, conflicts: &[Conflict]) -> Result<String, Alloc
     Ok(text)
 }
 
-/// Adds the line of a conflict to a text.
+/// Appends the line of a conflict to a text.
 fn push_conflict(text: &mut String, conflict: &Conflict) -> Result<(), AllocError>
     ensures { OnOk result (string_bytes text.new
         ≡ string_bytes text.old ++ conflict_text (conflict_record conflict.now)) }
@@ -54,15 +58,15 @@ fn push_conflict(text: &mut String, conflict: &Conflict) -> Result<(), AllocErro
     text.push('\n')
 }
 
-/// What stands behind the numbers of a conflict's lines, where one of them names a pre-release and where none
-/// does.
+/// What follows the numbers of a conflict's lines: ` pre` if one of the lines names a pre-release, otherwise
+/// nothing.
 fn prerelease_text(names_prerelease: bool) -> &'static str
     ensures { result.now ≡ prerelease_text names_prerelease }
 {
     if names_prerelease { " pre" } else { "" }
 }
 
-/// Adds numbers with commas between them.
+/// Appends numbers with commas between them.
 fn push_numbers(text: &mut String, numbers: &[usize]) -> Result<(), AllocError>
     ensures { OnOk result (string_bytes text.new
         ≡ string_bytes text.old ++ join_with_byte 44 (map decimal numbers.now)) }
@@ -76,7 +80,7 @@ fn push_numbers(text: &mut String, numbers: &[usize]) -> Result<(), AllocError>
     }
 }
 
-/// Adds each number behind a comma.
+/// Appends each number after a comma.
 fn push_others(text: &mut String, numbers: &[usize]) -> Result<(), AllocError>
     ensures { OnOk result (string_bytes text.new
         ≡ string_bytes text.old ++ flat_map (λ number. 44 ∷ decimal number) numbers.now) }

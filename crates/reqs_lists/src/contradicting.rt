@@ -22,14 +22,24 @@ use reqtable_table::TableError;
 use std::alloc::Global;
 use std::io::{Read, Write};
 
-/// Reads a list of requirements, and writes a line for each case of a package in which its lines contradict
-/// each other: the package, and the numbers of the lines that apply then, as `name 1,3`; behind them ` pre`
-/// where a specifier of these lines names a pre-release, so that pre-releases would be candidates.
+/// Reads a list of requirements, and writes a line for each conflict that `reqtable_conflicts::conflicts`
+/// finds: the package, and the numbers of the lines that contradict each other when just they apply, as
+/// `name 1,3`; and then ` pre` if a specifier of these lines names a pre-release, so that pre-releases would
+/// be candidates.
 ///
-/// Lines stand in the order of the packages' names, and those of a package in the order of its cases, by
-/// `reqtable_conflicts::conflicts`; or they stand in one object (`docs/JSON.md`). A package that has more
-/// cases than the limit is refused: the first by name. The list is read whole, and the text is made whole
-/// before the first write.
+/// No plain version, one without a local part that is no post-release, is accepted by all lines of a
+/// conflict. Other versions may be: `torch==2.0+cu118` and `torch<=2.0` are written, and both accept
+/// 2.0+cu118.
+///
+/// Lines are in the order of the packages' names, and those of a package in the order of its cases; in the
+/// other format they are in one object (`docs/COMMANDS.md`). The list is read whole, and the whole text is
+/// made before the first write.
+///
+/// # Errors
+///
+/// A `RunFault` for a list that can't be read whole or is invalid, and then `RunFault::TooManyCases` for the
+/// first package by name that has more cases than `limit`; nothing is written then. `RunFault::Memory` when
+/// memory runs out, before the first write. `RunFault::Write` if the output fails.
 pub fn conflicts<R: Read, W: Write>(
     alloc: Global,
     requirements: &mut R,
@@ -48,7 +58,7 @@ pub fn conflicts<R: Read, W: Write>(
     write_answer(output, answer.text.as_str(), answer.status)
 }
 
-/// The answer on a list, whose bytes are let go once they are read.
+/// The answer on a list. Drops its bytes once they are parsed.
 fn conflicts_answer(
     alloc: Global,
     requirements: &mut Vec<u8>,
@@ -65,7 +75,7 @@ fn conflicts_answer(
     conflicts_of(alloc, &requirements, &mut interner, limit, format)
 }
 
-/// The answer on requirements.
+/// The answer on a parsed list.
 fn conflicts_of(
     alloc: Global,
     requirements: &Requirements,

@@ -1,4 +1,4 @@
-//! Laws over the definitions. The functions do nothing: each one's contract is its law.
+//! Laws about what these commands write. The functions do nothing: each one's contract is its law.
 
 ghost use Rattle.std.specs.Prelude.{◌≡◌, ◌⊎◌, ℕ, List, codes, Ok};
 ghost use Rattle.pep508_diagram.specs.Diagram.{Diagram};
@@ -17,8 +17,8 @@ ghost use Rattle.reqs_lists.specs.Contradictions.{ConflictsAnswerAs, conflicts_t
 ghost use Rattle.reqs_lists.specs.Lists.{IsRead, one_list, two_lists};
 ghost use Rattle.reqs_lists.specs.Normal.{NormalAnswersAs, normal_value};
 
-/// What `same` writes of two lists says the same in both formats, with one status: that they require the
-/// same, or the one package, and the one marker, of their first difference.
+/// `same` writes the same answer on two lists in both formats, and ends with the same status: that they
+/// require the same, or the same package and marker of their first difference.
 pub fn both_formats_of_same_say_the_same()
     ensures { (limit : ℕ) (vars : Variables) (inputs : List (List ℕ)) (ended other : Status)
         (text object : List ℕ) → SameAnswersAs Text limit vars inputs ended text →
@@ -29,7 +29,7 @@ pub fn both_formats_of_same_say_the_same()
         × (text ≡ difference_text name diagram) × (object ≡ line_of (difference_value name diagram))))) }
 {}
 
-/// What `conflicts` writes of a list has the same conflicts in both formats, those of the list.
+/// `conflicts` writes the same conflicts of a list in both formats: those of the list.
 pub fn both_formats_have_the_same_conflicts()
     ensures { (limit : ℕ) (vars : Variables) (inputs : List (List ℕ)) (ended other : Status)
         (text object : List ℕ) → ConflictsAnswerAs Text limit vars inputs ended text →
@@ -39,7 +39,7 @@ pub fn both_formats_have_the_same_conflicts()
         × (object ≡ line_of (conflicts_value found))) }
 {}
 
-/// What `normal` writes of a list has the same lines in both formats, those of its normal text.
+/// `normal` writes the same lines of a list in both formats: those of its normal text.
 pub fn both_formats_have_the_same_normal_text()
     ensures { (vars : Variables) (inputs : List (List ℕ)) (ended other : Status) (text object : List ℕ) →
         NormalAnswersAs Text vars inputs ended text → NormalAnswersAs Json vars inputs other object →

@@ -1,7 +1,7 @@
 #![tactic(auto)]
 //! The commands of `reqs` on requirement lists alone: whether two require the same, which lines of one
-//! contradict each other, and one in the normal form. Each reads its inputs whole, and writes its answer once
-//! it is made whole.
+//! contradict each other, and the normal form of one. Each reads its inputs whole, and writes its answer once
+//! all of it is made.
 //!
 //! ```text
 //! let status = same(alloc, &mut left, &mut right, &vars, 4096, Format::Text, &mut output)?;

@@ -1,4 +1,6 @@
-//! `normal`: a list in the normal form.
+//! `normal`: the normal form of a list.
+//!
+//! In JSON the answer is an array of the normal text's lines, each of which is one requirement.
 
 ghost use Rattle.std.specs.Prelude.{◌≡◌, ◌≢◌, ◌∷◌, [], List, IfErr, IfOk, string_bytes};
 ghost use Rattle.std.specs.List.{AllZip};
@@ -27,10 +29,17 @@ use serde_json::{Value, json};
 use std::alloc::{AllocError, Global};
 use std::io::{Read, Write};
 
-/// Reads a list of requirements, and writes it in the normal form: a line for each of its lines whose marker
-/// sometimes holds, by `reqtable_normal::normal`; or as one object of these lines (`docs/JSON.md`).
+/// Reads a list of requirements, and writes it in the normal form of `reqtable_normal::normal`: a line for
+/// each of its lines whose marker can hold; in the other format one object of these lines
+/// (`docs/COMMANDS.md`).
 ///
-/// The list is read whole, and the text is made whole before the first write.
+/// The list is read whole, and the whole text is made before the first write.
+///
+/// # Errors
+///
+/// A `RunFault` for a list that can't be read whole or is invalid, and then `RunFault::Refused` for the first
+/// line that has no normal form; nothing is written then. `RunFault::Memory` when memory runs out, before the
+/// first write. `RunFault::Write` if the output fails.
 pub fn normal<R: Read, W: Write>(
     alloc: Global,
     requirements: &mut R,
@@ -48,7 +57,7 @@ pub fn normal<R: Read, W: Write>(
     write_answer(output, answer.text.as_str(), answer.status)
 }
 
-/// The answer on a list, whose bytes are let go once they are read.
+/// The answer on a list. Drops its bytes once they are parsed.
 fn normal_answer(
     alloc: Global,
     requirements: &mut Vec<u8>,
@@ -64,7 +73,7 @@ fn normal_answer(
     normal_of(alloc, &requirements, &interner, format)
 }
 
-/// The answer on requirements.
+/// The answer on a parsed list.
 fn normal_of(
     alloc: Global,
     requirements: &Requirements,
@@ -116,7 +125,7 @@ fn normal_value(alloc: Global, text: &str) -> Result<Value, AllocError>
     json!(in alloc; {"requirements": lines})
 }
 
-/// The cause by which the command is refused.
+/// The cause of the command's fault for this cause.
 fn refused_for(cause: NormalCause) -> RefusedCause
     ensures { result ≡ refused_for cause }
 {

@@ -5,15 +5,17 @@ use Rattle.std.proofs.lemmas.Str.{is_utf8-from_IsUtf8}
 use Rattle.std.specs.Str.{is_utf8, IsUtf8, chars}
 use Rattle.pep508_diagram.specs.Question.{Valuation}
 use Rattle.pep508_tree.specs.Tree.{Tree}
-use Rattle.pep508_tree.specs.Meaning.{NodeRecord, holds}
+use Rattle.pep508_tree.specs.Meaning.{NodeRecord}
 use Rattle.pep508_url.specs.UrlTexts.{Verbatim}
 use Rattle.pep508_url.specs.declared.error.VerbatimUrlError.{VerbatimUrlError}
 use Rattle.pep508_error.specs.Errors.{Fault, told_error}
+use Rattle.pep508_marker.specs.Expression.{ExpressionRecord}
 use Rattle.pep508_marker.specs.Warnings.{Warning}
+use Rattle.pep508_expression.specs.Expressions.{expression_holds}
 use Rattle.pep508_marker_comparison.specs.SideReading.{Refused}
-use Rattle.pep508_marker_comparison.specs.Outcome.{Shows, TellsSource}
+use Rattle.pep508_marker_comparison.specs.Outcome.{Shows}
 use Rattle.pep508_marker_read.specs.MarkerReading.{Marker, marker_at}
-use Rattle.pep508_marker_read.specs.MarkerOutcome.{IsTreeOf}
+use Rattle.pep508_marker_read.specs.Formula.{Formula, formula_holds}
 use Rattle.pep508_marker_read.specs.TextOutcome.{ReadsMarkerText}
 use Rattle.reqs_reply.proofs.Ends.{is_utf8-false}
 use Rattle.reqs_markers.specs.Errors.{TextError}
@@ -26,13 +28,14 @@ pub reads_tree : {R : Type 0} (takes : R → Warning → R → Type 0) (old new 
 reads_tree takes old new nodes text (Ok tree) reading h = (h.0, h.1, h.2)
 reads_tree takes old new nodes text (Err error) reading h = h
 
--- the mark of a tree's truth is that of its marker
-pub held : (nodes : List NodeRecord) (tree : Tree) (marker : Marker) (v : Valuation) (reading : Result Marker Refused)
-    (truth : Bool) (mark : ℕ) → reading ≡ Ok marker → IsTreeOf nodes tree marker.formula → truth ≡ holds nodes tree v
-    → mark ≡ (if truth then 49 else 48) → mark ≡ held_mark v reading
-held nodes tree marker v reading truth mark read is holds_so e =
+-- the mark of a formula's truth is that of its marker
+pub held : (formula : Formula ExpressionRecord) (marker : Marker) (v : Valuation) (reading : Result Marker Refused)
+    (truth : Bool) (mark : ℕ) → reading ≡ Ok marker → formula ≡ marker.formula
+    → truth ≡ formula_holds (λ e. expression_holds e v) formula → mark ≡ (if truth then 49 else 48)
+    → mark ≡ held_mark v reading
+held formula marker v reading truth mark read is holds_so e =
     let mark_by : Bool → ℕ = λ t. if t then 49 else 48 in
-    e ∙ ap mark_by (holds_so ∙ is.truth v) ∙ sym (ap (held_mark v) read)
+    e ∙ ap mark_by (holds_so ∙ ap (formula_holds (λ e. expression_holds e v)) is) ∙ sym (ap (held_mark v) read)
 
 -- that of a text that is refused
 no_marker : (v : Valuation) (text : List ℕ) (told : Option (Fault Verbatim VerbatimUrlError)) (reading : Result Marker Refused)

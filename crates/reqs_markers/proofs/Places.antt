@@ -8,10 +8,9 @@ use Rattle.pep508_error.specs.declared.cursor.Cursor.{Cursor}
 use Rattle.pep508_error.specs.Cursors.{rest_of}
 use Rattle.pep508_url.specs.UrlTexts.{Verbatim}
 use Rattle.pep508_url.specs.declared.error.VerbatimUrlError.{VerbatimUrlError}
-use Rattle.pep508_tree.specs.Meaning.{NodeRecord}
 use Rattle.pep508_requirement_text.specs.FrontReading.{Front, front_reading}
-use Rattle.pep508_requirement.specs.RequirementReading.{IsRead}
-use Rattle.pep508_requirement.specs.declared.requirement.Requirement.{Requirement}
+use Rattle.pep508_requirement.specs.MarkedReading.{IsReadMarked}
+use Rattle.pep508_requirement.specs.declared.marked.MarkedRequirement.{MarkedRequirement}
 use Rattle.reqs_reply.specs.declared.place.Place.{Place}
 use Rattle.reqs_reply.specs.Endings.{Ending, Answered, OutOfMemory, EndsIn}
 use Rattle.reqs_markers.specs.Parts.{ReadsUrl, IsMarkerPlace, HasParts, AreParts}
@@ -44,17 +43,16 @@ answered_by Answers Refuses (Ok text) ending is h = subst (EndsIn Answers Refuse
 answered_by Answers Refuses (Err error) ending is h = subst (EndsIn Answers Refuses) (sym is) tt
 
 -- the parts of the requirement that was read are those of the bytes
-pub parts_of : {Y E : Type 0} (nodes : List NodeRecord) (bytes text : List ℕ)
-    (r : Requirement Verbatim VerbatimUrlError) → is_utf8 bytes ≡ true → text ≡ bytes
-    → (read : IsRead ReadsUrl nodes bytes r) (made : Result (String Y) E)
+pub parts_of : {Y E : Type 0} (bytes text : List ℕ)
+    (r : MarkedRequirement Verbatim VerbatimUrlError) → is_utf8 bytes ≡ true → text ≡ bytes
+    → (read : IsReadMarked ReadsUrl bytes r) (made : Result (String Y) E)
     → IfOk made (λ parts. (front : Front) (rest : List ℕ) → front_reading text ≡ Ok (front, rest)
     → HasParts text (skip_leading_whitespace rest) r (string_bytes parts))
     → IfOk made (λ parts. AreParts bytes (string_bytes parts))
-parts_of nodes bytes text r e is read (Ok parts) h =
+parts_of bytes text r e is read (Ok parts) h =
     let whole = read.whole in
     let left = h read.front whole.rest (ap front_reading is ∙ whole.reading) in
     record {
-      nodes = nodes;
       requirement = r;
       is_utf8_text = e;
       reads = read;
@@ -62,4 +60,4 @@ parts_of nodes bytes text r e is read (Ok parts) h =
           subst (λ (cs : List ℕ). HasParts bytes cs r (string_bytes parts)) whole.behind
           (subst (λ (bs : List ℕ). HasParts bs (skip_leading_whitespace whole.rest) r (string_bytes parts)) is left);
     }
-parts_of nodes bytes text r e is read (Err error) h = tt
+parts_of bytes text r e is read (Err error) h = tt

@@ -6,12 +6,12 @@ use Rattle.pep508_url.specs.Vars.{Variables}
 use Rattle.pep508_url.specs.UrlFaults.{told_url}
 use Rattle.pep508_url.specs.UrlTexts.{Verbatim, verbatim_reading}
 use Rattle.pep508_url.specs.declared.error.VerbatimUrlError.{VerbatimUrlError}
-use Rattle.pep508_tree.specs.Meaning.{NodeRecord}
 use Rattle.pep508_error.specs.Errors.{told_error}
 use Rattle.pep508_marker_comparison.specs.Outcome.{Shows}
 use Rattle.pep508_marker_read.specs.MarkerReading.{marker_at}
-use Rattle.pep508_requirement.specs.RequirementReading.{IsRead, IsRefused}
-use Rattle.pep508_requirement.specs.declared.requirement.Requirement.{Requirement}
+use Rattle.pep508_requirement.specs.MarkedReading.{IsReadMarked}
+use Rattle.pep508_requirement.specs.RequirementReading.{IsRefused}
+use Rattle.pep508_requirement.specs.declared.marked.MarkedRequirement.{MarkedRequirement}
 use Rattle.pep508_url.specs.Lacking.{lacks_memory}
 use Rattle.reqs_reply.specs.Endings.{Ending, EndsIn, NoAnswer, IsNotText}
 use Rattle.reqs_reply.proofs.Ends.{refused_more}
@@ -25,12 +25,11 @@ reads_with vars text outcome =
     Answers (λ url. url) told_url outcome (verbatim_reading vars text (Some (codes "/")))
 
 -- a requirement that is read with no variables
-pub read_alone : (vars : Variables) (nodes : List NodeRecord) (bytes text : List ℕ)
-    (r : Requirement Verbatim VerbatimUrlError) → vars ≡ no_variables → text ≡ bytes
-    → IsRead (reads_with vars) nodes text r → IsRead ReadsUrl nodes bytes r
-read_alone vars nodes bytes text r none is h =
-    let alone = subst (λ (v : Variables). IsRead (reads_with v) nodes text r) none h in
-    subst (λ (bs : List ℕ). IsRead ReadsUrl nodes bs r) is alone
+pub read_alone : (vars : Variables) (bytes text : List ℕ) (r : MarkedRequirement Verbatim VerbatimUrlError)
+    → vars ≡ no_variables → text ≡ bytes → IsReadMarked (reads_with vars) text r → IsReadMarked ReadsUrl bytes r
+read_alone vars bytes text r none is h =
+    let alone = subst (λ (v : Variables). IsReadMarked (reads_with v) text r) none h in
+    subst (λ (bs : List ℕ). IsReadMarked ReadsUrl bs r) is alone
 
 module _ (input : ℕ) (bytes text : List ℕ) (error : TextError) (e : is_utf8 bytes ≡ true) (is : text ≡ bytes)
     (ending : Ending) (told : EndsIn NoAnswer (IsToldBy input error) ending) where

@@ -1,4 +1,4 @@
--- What is said of a text that is no requirement or no marker.
+-- The messages for a text that is not a requirement or not a marker.
 use Rattle.std.specs.Prelude.{◌≡◌, ℕ, List, Option, Some, IfSome}
 use Rattle.pep508_url.specs.UrlFaults.{url_error_text}
 use Rattle.pep508_url.specs.UrlTexts.{Verbatim}
@@ -9,12 +9,12 @@ use Rattle.pep508_error.specs.Spans.{IsSpan}
 use Rattle.reqs_reply.specs.declared.place.Place.{Place}
 use Rattle.reqs_reply.specs.Endings.{span}
 
--- why a text is none
+-- why a text is invalid
 abbrev pub TextError : Type 0
 TextError = Pep508Error Verbatim VerbatimUrlError
 
--- the error tells a fault, which the message says and whose part of the argument of this number is the place;
--- where the message is that of the crate `url`, nothing is claimed of it
+-- the error reports a fault, whose text is the message and whose part of the argument of this number is the
+-- place; nothing is claimed of a message of the crate `url`
 pub record IsToldBy (input : ℕ) (error : TextError) (place : Place) (message : List ℕ) : Type 0 where
   pub fault : Fault Verbatim VerbatimUrlError
   pub tells : told_error error ≡ Some fault

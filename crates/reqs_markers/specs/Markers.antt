@@ -1,4 +1,4 @@
--- What is answered on the texts of markers (PEP 508, "Environment Markers").
+-- The replies on the texts of markers (PEP 508, "Environment Markers").
 use Rattle.std.specs.Prelude.{◌≡◌, ◌⊎◌, ℕ, Bool, true, if◌then◌else◌, List, [], Result, Ok, Err}
 use Rattle.std.specs.Str.{is_utf8, chars}
 use Rattle.pep508_diagram.specs.Question.{Valuation}
@@ -16,12 +16,11 @@ use Rattle.reqs_reply.specs.Endings.{Ending, EndsIn, IsNotText}
 use Rattle.reqs_markers.specs.Errors.{TextError, IsToldBy}
 use Rattle.reqs_markers.specs.NormalTexts.{IsTextOf, IsNoTextOf}
 
--- whether a marker holds; one none of whose comparisons says anything does
+-- whether a marker holds; one without any meaningful comparison does
 abbrev pub marker_holds : Marker → Valuation → Bool
 marker_holds marker v = formula_holds (λ e. expression_holds e v) marker.formula
 
--- what reading a text returned is the tree of the marker that it is, with these nodes; or an error for its
--- reason
+-- the result of reading a text is the tree of its marker, with these nodes; or an error for its reason
 abbrev pub ReadsTree : List NodeRecord → List ℕ → Result Tree TextError → Result Marker Refused → Type 0
 ReadsTree nodes text (Ok tree) reading =
     (marker : Marker) × (reading ≡ Ok marker) × IsTreeOf nodes tree marker.formula
@@ -32,7 +31,7 @@ pub record IsMarkerIn (bytes : List ℕ) (marker : Marker) : Type 0 where
   pub is_utf8_text : is_utf8 bytes ≡ true
   pub is_marker : marker_at (chars bytes) ≡ Ok marker
 
--- a tree of these nodes is that of the marker that bytes are
+-- a tree of these nodes is that of the marker in these bytes
 pub record IsMarkerTree (nodes : List NodeRecord) (bytes : List ℕ) (tree : Tree) : Type 0 where
   pub marker : Marker
   pub is_marker : IsMarkerIn bytes marker
@@ -40,7 +39,7 @@ pub record IsMarkerTree (nodes : List NodeRecord) (bytes : List ℕ) (tree : Tre
 
 -- ---- refusals
 
--- the argument of this number is a text that is no marker, for what an error says
+-- the argument of this number is a text that is not a marker, for the reason of an error
 pub record IsNoMarker (input : ℕ) (bytes : List ℕ) (place : Place) (message : List ℕ) : Type 0 where
   pub error : TextError
   pub is_utf8_text : is_utf8 bytes ≡ true
@@ -53,17 +52,17 @@ RefusesMarker input bytes place message =
 
 -- ---- normal texts
 
--- what is wanted of the values of a marker that is made of another one
+-- the wanted values of a marker that is derived from another one
 abbrev pub Wants : Type 1
 Wants = Marker → (Valuation → Bool) → Type 0
 
--- the text is the normal one of what is wanted of the marker that bytes are
+-- the text is the normal one with the wanted values of the marker in these bytes
 pub record GivesText (bytes : List ℕ) (Wanted : Wants) (text : List ℕ) : Type 0 where
   pub marker : Marker
   pub is_marker : IsMarkerIn bytes marker
   pub is_text : IsTextOf (Wanted marker) text
 
--- what is wanted of the marker that bytes are has no normal text, and the message says why
+-- the wanted values of the marker in these bytes have no normal text, and the message is the reason
 pub record GivesNoText (bytes : List ℕ) (Wanted : Wants) (place : Place) (message : List ℕ) : Type 0 where
   pub marker : Marker
   pub is_marker : IsMarkerIn bytes marker
@@ -73,7 +72,7 @@ abbrev pub RefusesText : List ℕ → Wants → Place → List ℕ → Type 0
 RefusesText bytes Wanted place message =
     RefusesMarker 1 bytes place message ⊎ GivesNoText bytes Wanted place message
 
--- how a call ends that is to give the normal text of what is wanted of a marker
+-- how a call for the normal text with the wanted values of a marker ends
 abbrev pub TextEnds : List ℕ → Wants → Ending → Type 0
 TextEnds bytes Wanted = EndsIn (GivesText bytes Wanted) (RefusesText bytes Wanted)
 
@@ -81,11 +80,11 @@ TextEnds bytes Wanted = EndsIn (GivesText bytes Wanted) (RefusesText bytes Wante
 abbrev pub HoldsAlike : Wants
 HoldsAlike marker value = (v : Valuation) → value v ≡ marker_holds marker v
 
--- how a call ends that is to give the normal text of a marker
+-- how a call for the normal text of a marker ends
 abbrev pub MarkerEnds : List ℕ → Ending → Type 0
 MarkerEnds bytes = TextEnds bytes HoldsAlike
 
--- the text is read as a marker with these values; an empty one is none, and the values are all true then
+-- the text is read as a marker with these values; an empty one is no marker, and then the values are all true
 abbrev pub ReadsBack : List ℕ → (Valuation → Bool) → Type 0
 ReadsBack text value =
     ((text ≡ []) × ((v : Valuation) → value v ≡ true))
@@ -93,11 +92,11 @@ ReadsBack text value =
 
 -- ---- many markers
 
--- `1` where a marker holds, `0` where it doesn't, `?` where there is none
+-- `1` if a marker holds, `0` if it doesn't, `?` if there is none
 abbrev pub held_mark : Valuation → Result Marker Refused → ℕ
 held_mark v (Ok marker) = if marker_holds marker v then 49 else 48
 held_mark v (Err refused) = 63
 
--- the mark of the marker that bytes are
+-- the byte for the marker in these bytes
 unfoldable pub mark_in : Valuation → List ℕ → ℕ
 mark_in v bytes = if is_utf8 bytes then held_mark v (marker_at (chars bytes)) else 63

@@ -12,20 +12,20 @@ use Rattle.reqs_markers.specs.declared.texts.TextFault.{TextFault}
 use Rattle.reqs_markers.specs.declared.texts.TextFault.TheVariants.{SingleQuote, DeprecatedKey}
 use Rattle.reqs_markers.specs.declared.texts.TextFault.TheVariants.{VersionBound, NeverHolds}
 
--- the diagram asks nothing in vain, and has each version in its shortest spelling: there is one such diagram
--- of each meaning
+-- the diagram has no needless question, and has each version in its shortest spelling: there is one such
+-- diagram for each meaning
 pub record IsNormalDiagram (diagram : Diagram Question) : Type 0 where
   pub canonical : IsCanonical diagram
   pub short : HasShortVersions diagram
 
--- ---- which markers have none
+-- ---- which markers have no normal text
 
 abbrev pub never_holds : Diagram Question → Bool
 never_holds (Leaf b) = not b
 never_holds (Test q low high) = false
 
--- the first cause for which the text of a marker would be read as another one, or as none; one that always
--- holds asks nothing
+-- the first cause for which the text of a marker would be read as another marker, or not as one; a marker
+-- that always holds has no question
 abbrev pub text_fault : Diagram Question → Option TextFault
 text_fault diagram =
     if asks_any has_quote diagram then Some SingleQuote
@@ -41,32 +41,33 @@ text_fault_words NeverHolds = codes "never holds"
 
 -- ---- the text
 
--- the text is the normal one of a marker that means the diagram, empty where that always holds
+-- the text is the normal one of a marker with this diagram, empty if that always holds
 pub record IsTextOfDiagram (diagram : Diagram Question) (text : List ℕ) : Type 0 where
   pub no_fault : text_fault diagram ≡ None
   pub is_text : text ≡ unwrap_or (marker_text diagram) []
 
--- such a marker has no normal text, and the message says why; the place is the first argument
+-- a marker with this diagram has no normal text, and the message is the reason; the place is the first
+-- argument
 pub record HasNoText (diagram : Diagram Question) (place : Place) (message : List ℕ) : Type 0 where
   pub fault : TextFault
   pub is_fault : text_fault diagram ≡ Some fault
   pub stands : place ≡ span 1 0 0
   pub says : message ≡ codes "no normal text: " ++ text_fault_words fault
 
--- how a call ends that is to give the normal text of a diagram
+-- how a call for the normal text of a diagram ends
 abbrev pub DiagramEnds : Diagram Question → Ending → Type 0
 DiagramEnds diagram = EndsIn (IsTextOfDiagram diagram) (HasNoText diagram)
 
--- ---- by what is meant
+-- ---- by meaning
 
--- the text is the normal one of a marker whose values are wanted so
+-- the text is the normal one of a marker with values that are wanted
 pub record IsTextOf (IsWanted : (Valuation → Bool) → Type 0) (text : List ℕ) : Type 0 where
   pub diagram : Diagram Question
   pub is_normal : IsNormalDiagram diagram
   pub wanted : IsWanted (truth diagram)
   pub is_text : IsTextOfDiagram diagram text
 
--- a marker whose values are wanted so has no normal text, and the message says why
+-- a marker with values that are wanted has no normal text, and the message is the reason
 pub record IsNoTextOf (IsWanted : (Valuation → Bool) → Type 0) (place : Place) (message : List ℕ)
     : Type 0 where
   pub diagram : Diagram Question

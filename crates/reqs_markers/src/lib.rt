@@ -1,4 +1,4 @@
-//! What the library for C answers on requirements and markers (PEP 508), over bytes.
+//! The C library's calls on requirements and markers (PEP 508), over bytes.
 #![tactic(auto)]
 
 pub mod laws;

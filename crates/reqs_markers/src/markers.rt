@@ -13,9 +13,9 @@ use crate::refusing::refused;
 use crate::texts::normal_text;
 use pep508_environment::MarkerEnvironment;
 use pep508_error::{Pep508Error, Pep508ErrorSource};
-use pep508_evaluation::MarkerTreeEvaluation;
+use pep508_formula_truth::holds_in;
 use pep508_marker::Silent;
-use pep508_marker_read::MarkerTreeReading;
+use pep508_marker_read::{MarkerTreeReading, parse_formula};
 use pep508_name::ExtraName;
 use pep508_tree::{Interner, MarkerTree};
 use pep508_url::VerbatimUrl;
@@ -23,19 +23,23 @@ use reqs_reply::{Ended, Reply, text_of};
 use std::alloc::{AllocError, Global};
 use std::str;
 
-/// Answers with the normal text of the marker that a text is (PEP 508, "Environment Markers"): markers that
-/// hold alike have it in common, and it is read as a marker that holds alike; it is empty where the marker
-/// always holds. A text that is no marker is refused where it stops being one, and a marker that has no such
-/// text for the first cause of `TextFault`, in the order of its variants.
+/// Replies with the normal text of a marker (PEP 508, "Environment Markers"): markers that hold under the
+/// same valuations have the same, and it can be read as such a marker. It is empty if the marker always
+/// holds.
 ///
-/// Takes exponentially long in the text at worst, as its length is then.
+/// Needs exponential time in the text at worst, as the normal text's length is then exponential.
+///
+/// # Errors
+///
+/// Refuses a text that is not a marker, at the byte where it stops being one, and a marker without a normal
+/// text, with the first cause of `TextFault`, in the order of its variants. Status 3 when memory runs out.
 pub fn marker(alloc: Global, bytes: &[u8], out: &mut [u8]) -> Reply
     ensures { RepliesAs (MarkerEnds bytes.now) out.old out.new result }
 {
     own_text(alloc, bytes).reply(out)
 }
 
-/// How the call ends that gives the normal text.
+/// The end of the call that replies with the normal text.
 fn own_text(alloc: Global, bytes: &[u8]) -> Ended
     ensures { MarkerEnds bytes.now (ending_of result) }
 {
@@ -46,9 +50,11 @@ fn own_text(alloc: Global, bytes: &[u8]) -> Ended
     }
 }
 
-/// The tree of the marker that the argument of this number is, or how the call ends that gets no marker.
+/// The tree of the marker in an argument. Linear in the text except for combining trees.
 ///
-/// Linear in the text but for combining trees.
+/// # Errors
+///
+/// How the call ends: refused at argument `input` if it is not a marker, or out of memory.
 pub fn read_marker(
     alloc: Global,
     interner: &mut Interner,
@@ -66,7 +72,7 @@ pub fn read_marker(
     }
 }
 
-/// The tree of the marker that a text is; its warnings are dropped.
+/// The tree of the marker in a text; its warnings are dropped.
 fn read_tree(
     alloc: Global,
     interner: &mut Interner,
@@ -78,8 +84,13 @@ fn read_tree(
     MarkerTree::parse_reporter(alloc, interner, text, &mut Silent)
 }
 
-/// `1` where the marker that a line is holds in an environment with extras, `0` where it doesn't, `?` where
-/// the line is no marker.
+/// The byte `1` if the marker on a line holds in an environment with extras, `0` if it doesn't, `?` if the
+/// line is not a marker. Makes no tree: linear in the line, except that n versions which a key is compared
+/// with at once need O(n log n) comparisons.
+///
+/// # Errors
+///
+/// `AllocError` when memory runs out.
 pub fn mark_of_line(
     alloc: Global,
     line: &[u8],
@@ -103,21 +114,20 @@ fn mark_of_text(
     ensures { IfOk result (λ mark.
         mark ≡ held_mark (valuation_of environment.now extras.now) (marker_at (chars text.now))) }
 {
-    let mut interner = Interner::new(alloc);
-    match read_tree(alloc, &mut interner, text) {
-        Ok(tree) => Ok(mark_of(tree.evaluate(&interner, environment, extras))),
+    match parse_formula(alloc, text, &mut Silent) {
+        Ok(formula) => Ok(mark_of(holds_in(alloc, &formula, environment, extras)?)),
         Err(error) => mark_of_error(&error),
     }
 }
 
-/// The mark of a marker that holds, or doesn't.
+/// The byte for a marker that holds, or doesn't.
 fn mark_of(holds: bool) -> u8
     ensures { result ≡ (if holds then 49 else 48) }
 {
     if holds { b'1' } else { b'0' }
 }
 
-/// The mark of a text that is no marker.
+/// The byte for a text that is not a marker.
 fn mark_of_error(error: &Pep508Error<VerbatimUrl>) -> Result<u8, AllocError>
     ensures question { IfOk result (λ mark. mark ≡ 63) }
     ensures told { OnOk result (told_error error.now ≢ None) }

@@ -1,4 +1,4 @@
-//! How a call ends whose text is refused.
+//! The end of a call whose text is refused.
 
 ghost use Rattle.reqs_reply.specs.Endings.{EndsIn, NoAnswer, ending_of};
 ghost use Rattle.reqs_markers.specs.Errors.{IsToldBy};
@@ -8,7 +8,7 @@ use pep508_url::VerbatimUrl;
 use reqs_reply::{Ended, Place};
 use std::alloc::Global;
 
-/// How a call ends whose argument of this number is refused with an error, or for which memory ran out.
+/// The end of a call whose argument of this number is refused with an error, or for which memory ran out.
 pub(crate) fn refused(alloc: Global, input: u32, error: &Pep508Error<VerbatimUrl>) -> Ended
     ensures { EndsIn NoAnswer (IsToldBy input error.now) (ending_of result) }
 {

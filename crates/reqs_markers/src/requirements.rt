@@ -12,37 +12,45 @@ ghost use Rattle.reqs_markers.specs.Parts.{HasParts, RequirementEnds};
 use crate::refusing::refused;
 use pep508_error::Cursor;
 use pep508_name::ExtraName;
-use pep508_requirement::{Requirement, VersionOrUrl};
+use pep508_requirement::{MarkedRequirement, VersionOrUrl};
 use pep508_requirement_text::read_front;
-use pep508_tree::Interner;
 use pep508_url::{Vars, VerbatimUrl};
 use reqs_reply::{Ended, Reply, text_of};
 use std::alloc::{AllocError, Global};
 use std::fmt::Write;
 
-/// The directory in which relative paths stand.
+/// The directory against which relative paths are resolved.
 const ROOT: &str = "/";
 
-/// No variables, for a caller whose process's variables aren't seen.
+/// No environment variables, for a caller whose process's variables aren't used.
+///
+/// # Errors
+///
+/// `AllocError` when memory runs out.
 pub fn no_variables(alloc: Global) -> Result<Vars, AllocError>
     ensures { IfOk result (λ vars. vars ≡ no_variables) }
 {
     Vars::new(alloc, &[], ROOT)
 }
 
-/// Answers with the parts of the requirement that a text is (PEP 508, "Grammar"): its name, its extras and
-/// its specifiers with commas between them, and its URL as it is written, each on a line, and then where its
-/// marker stands in the text: the first byte and the number of bytes, which are all that follow the `;`.
-/// Another text is refused where it stops being a requirement.
+/// Replies with the parts of a requirement (PEP 508, "Grammar"), each on a line: its name, its extras and its
+/// specifiers, both with commas between them, and its URL as it is written; and then the place of its marker
+/// in the text: the index of the first byte and the number of bytes, which are all that follow the `;`.
 ///
-/// Linear in the text, but for bringing specifiers in order and for combining the marker's trees.
+/// Makes no tree of the marker: linear in the text, except for sorting the specifiers, and that n versions
+/// which a key is compared with at once need O(n log n) comparisons.
+///
+/// # Errors
+///
+/// Refuses a text that is not a requirement, at the byte where it stops being one. Status 3 when memory runs
+/// out.
 pub fn requirement(alloc: Global, bytes: &[u8], out: &mut [u8]) -> Reply
     ensures { RepliesAs (RequirementEnds bytes.now) out.old out.new result }
 {
     requirement_parts(alloc, bytes).reply(out)
 }
 
-/// How the call ends that gives the parts.
+/// The end of the call that replies with the parts.
 fn requirement_parts(alloc: Global, bytes: &[u8]) -> Ended
     ensures { RequirementEnds bytes.now (ending_of result) }
 {
@@ -53,14 +61,13 @@ fn requirement_parts(alloc: Global, bytes: &[u8]) -> Ended
     let Ok(vars) = no_variables(alloc) else {
         return Ended::OutOfMemory;
     };
-    let mut interner = Interner::new(alloc);
-    match Requirement::parse(alloc, &mut interner, &vars, text, Some(ROOT)) {
+    match MarkedRequirement::parse(alloc, &vars, text, Some(ROOT)) {
         Ok(requirement) => Ended::answered(parts_text(alloc, &vars, text, &requirement)),
         Err(error) => refused(alloc, 1, &error),
     }
 }
 
-/// Where the marker of a text stands whose front can be read.
+/// The place of the marker, if there is one, in a text whose front can be read.
 fn marker_place(
     alloc: Global,
     vars: &Vars,
@@ -72,12 +79,13 @@ fn marker_place(
 {
     match read_front(alloc, Cursor::new(text), vars) {
         Ok((_, rest)) => Ok(inside_place(rest.after_whitespace())),
-        // The front can be read, so that nothing lacks but memory.
+        // The front can be read, so only memory can be lacking.
         Err(_) => Err(AllocError),
     }
 }
 
-/// Where what follows the first character of a place stands, and how many bytes it has.
+/// The index and the number of the bytes after the first character of the rest of a text; `None` if the rest
+/// is empty.
 fn inside_place(left: Cursor<'_>) -> Option<(usize, usize)>
     ensures { IsMarkerPlace left.entry.input.now (behind left.entry) result }
 {
@@ -85,12 +93,12 @@ fn inside_place(left: Cursor<'_>) -> Option<(usize, usize)>
     Some((inside.position(), inside.rest().len()))
 }
 
-/// The parts of a requirement that was read of the text.
+/// The parts of a requirement that was read from the text.
 fn parts_text(
     alloc: Global,
     vars: &Vars,
     text: &str,
-    requirement: &Requirement<VerbatimUrl>,
+    requirement: &MarkedRequirement<VerbatimUrl>,
 ) -> Result<String, AllocError>
     ensures { IfOk result (λ parts. (front : Front) (rest : List ℕ) →
         front_reading text.now ≡ Ok (front, rest) →
@@ -102,7 +110,7 @@ fn parts_text(
     Ok(parts)
 }
 
-/// Adds where a marker stands.
+/// Appends the place of a marker, if there is one.
 fn push_place(text: &mut String, place: Option<(usize, usize)>) -> Result<(), AllocError>
     ensures { OnOk result (string_bytes text.new ≡ string_bytes text.old ++ place_text place) }
 {
@@ -112,8 +120,11 @@ fn push_place(text: &mut String, place: Option<(usize, usize)>) -> Result<(), Al
     }
 }
 
-/// The lines of a requirement's front.
-fn front_lines(alloc: Global, requirement: &Requirement<VerbatimUrl>) -> Result<String, AllocError>
+/// The lines of a requirement's name, extras, specifiers and URL.
+fn front_lines(
+    alloc: Global,
+    requirement: &MarkedRequirement<VerbatimUrl>,
+) -> Result<String, AllocError>
     ensures { IfOk result (λ text. string_bytes text ≡ front_lines requirement.now) }
 {
     let mut text = String::from_str(alloc, requirement.name.as_str())?;
@@ -124,7 +135,7 @@ fn front_lines(alloc: Global, requirement: &Requirement<VerbatimUrl>) -> Result<
     Ok(text)
 }
 
-/// Adds names with commas between them.
+/// Appends names with commas between them.
 fn push_names(text: &mut String, names: &[ExtraName]) -> Result<(), AllocError>
     ensures { OnOk result (string_bytes text.new ≡ string_bytes text.old ++ join_with_byte 44 names.now) }
 {
@@ -137,7 +148,7 @@ fn push_names(text: &mut String, names: &[ExtraName]) -> Result<(), AllocError>
     }
 }
 
-/// Adds each name after a comma.
+/// Appends each name after a comma.
 fn push_others(text: &mut String, names: &[ExtraName]) -> Result<(), AllocError>
     ensures { OnOk result (string_bytes text.new
         ≡ string_bytes text.old ++ flat_map (λ name. 44 ∷ name) names.now) }
@@ -148,7 +159,7 @@ fn push_others(text: &mut String, names: &[ExtraName]) -> Result<(), AllocError>
     Ok(())
 }
 
-/// Adds the lines of the specifiers and the URL.
+/// Appends the lines of the specifiers and the URL.
 fn push_asked(
     text: &mut String,
     asked: &Option<VersionOrUrl<VerbatimUrl>>,

@@ -16,16 +16,17 @@ use pep508_tree::{Interner, MarkerTree};
 use reqs_reply::{Ended, Place};
 use std::alloc::{AllocError, Global};
 
-/// Why a marker has no normal text. What it asks for is what its answer hangs on, and not what was written.
+/// Why a marker has no normal text. This is decided by what its truth depends on, not by how it was written.
 #[derive(Clone, Copy, Debug, PartialEq, Eq)]
 pub enum TextFault {
-    /// It asks for a text with a single quote, which could not stand between single quotes.
+    /// It depends on a string with a single quote, which can't be written in single quotes.
     SingleQuote,
-    /// It asks of a key by an old name, as `os.name`, which prints as the new one.
+    /// It depends on a key with a deprecated name, as `os.name`, which prints under its new name.
     DeprecatedKey,
-    /// It has a version that is more than release numbers of epoch 0, which can't be written in it.
+    /// It depends on a version that is more than release numbers of epoch 0, which can't be printed in a
+    /// marker.
     VersionBound,
-    /// It never holds, which only a comparison of some key can say.
+    /// It never holds, which has no text without a comparison of some arbitrary key.
     NeverHolds,
 }
 
@@ -43,11 +44,11 @@ impl TextFault {
     }
 }
 
-/// How a call ends that gives the normal text of a tree, which is empty where that always holds, or says of
-/// the first argument why there is none.
+/// The end of a call that replies with the normal text of a tree, which is empty if the tree always holds, or
+/// refuses the first argument with the reason why there is none.
 ///
-/// Looks at each node of the tree once. The text may be exponentially longer than the tree, and is only made
-/// where it is given.
+/// Visits each node of the tree once. The text may be exponentially longer than the tree, and is only made if
+/// there is no such reason.
 #[tactic(auto, using(crate::proofs::Diagrams::normal))]
 pub fn normal_text(alloc: Global, interner: &Interner, tree: MarkerTree) -> Ended
     requires { IsTree interner.now.nodes tree }
@@ -62,7 +63,7 @@ pub fn normal_text(alloc: Global, interner: &Interner, tree: MarkerTree) -> Ende
     }
 }
 
-/// Why a tree has no normal text, if it has none.
+/// The reason why a tree has no normal text, or `None` if it has one.
 fn fault_of(
     alloc: Global,
     interner: &Interner,
@@ -75,7 +76,7 @@ fn fault_of(
     Ok(first_fault(asked, never_holds(interner, tree)))
 }
 
-/// The first cause for which a marker that asks so has no normal text.
+/// The first reason why a marker with these questions has no normal text.
 fn first_fault(asked: Asked, never: bool) -> Option<TextFault>
     ensures { (diagram : Diagram Question) → asked ≡ asked_by diagram → never ≡ never_holds diagram →
         result ≡ text_fault diagram }
@@ -102,7 +103,7 @@ fn never_holds(interner: &Interner, tree: MarkerTree) -> bool
     tree.is_false()
 }
 
-/// How a call ends whose marker has no normal text.
+/// The end of a call whose marker has no normal text.
 fn refused_for(alloc: Global, fault: TextFault) -> Ended
     ensures { (diagram : Diagram Question) → text_fault diagram ≡ Some fault →
         EndsIn NoAnswer (HasNoText diagram) (ending_of result) }
@@ -114,7 +115,7 @@ fn refused_for(alloc: Global, fault: TextFault) -> Ended
     )
 }
 
-/// The print of a tree, which is empty where it always holds.
+/// The print of a tree, which is empty if it always holds.
 fn tree_text(alloc: Global, interner: &Interner, tree: MarkerTree) -> Result<String, AllocError>
     requires { IsTree interner.now.nodes tree }
     ensures { IfOk result (λ text. string_bytes text

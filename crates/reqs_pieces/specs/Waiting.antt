@@ -1,8 +1,8 @@
--- What is written of a text, and what waits to be written.
+-- What is written of a text, and what is still in the buffer.
 use Rattle.std.specs.Prelude.{◌≡◌, ℕ, List, [], ◌++◌, Option}
 use Rattle.std.specs.Io.KnownBytes.{Appends}
 
--- what a writer took and what waits behind that are the text; where it is empty no write was made
+-- what a writer wrote and then what is in the buffer are the text; if nothing was written no write was made
 pub record IsWaiting {W : Type 0} (contents : W → Option (List ℕ)) (old now : W) (waiting text : List ℕ)
     : Type 0 where
   pub written : List ℕ

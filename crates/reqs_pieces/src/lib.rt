@@ -1,4 +1,4 @@
-//! A text of pieces that stand in it many times, and the writing of it.
+//! A text made of pieces that occur in it many times, and writing it.
 #![tactic(auto)]
 
 mod pieces;

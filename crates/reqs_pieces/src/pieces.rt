@@ -1,4 +1,4 @@
-//! Texts of pieces, each of which is kept once.
+//! Texts made of pieces, each of which is kept once.
 
 ghost use Rattle.std.specs.Prelude.{◌≡◌, ◌<◌, ◌++◌, ◌∷◌, [], length, get_or, IfOk, OnOk, OnErr};
 ghost use Rattle.std.specs.Prelude.{string_bytes};
@@ -10,7 +10,8 @@ use std::alloc::{AllocError, Global};
 use std::io::Write;
 use std::marker::Model;
 
-/// A text of pieces. A piece is kept once, however often it stands in the text: each time takes four bytes.
+/// A text made of pieces. A piece is kept once, however often it occurs in the text: each occurrence needs
+/// four bytes.
 #[derive(Drop)]
 pub struct Pieces {
     texts: Vec<String>,
@@ -33,8 +34,8 @@ impl Model for Pieces {
 }
 
 impl Pieces {
-    /// An empty text, which has no pieces. There is room for pieces to stand in it so many times, where there
-    /// is memory for that: so many take no more of it, and are never moved.
+    /// An empty text without pieces. Reserves memory for `room` occurrences of pieces, if there is that much:
+    /// so that appending this many needs no more memory, and never moves them.
     pub fn new(alloc: Global, room: usize) -> Pieces
         ensures texts { result.texts ≡ [] }
         ensures whole { result.whole ≡ [] }
@@ -45,7 +46,11 @@ impl Pieces {
         }
     }
 
-    /// Keeps a piece, which stands nowhere yet, and names it. The 2^32nd is refused as for want of memory.
+    /// Keeps a piece, which doesn't occur in the text yet, and returns its number.
+    ///
+    /// # Errors
+    ///
+    /// `AllocError` when memory runs out, or for more than 2^32 pieces.
     pub fn add(&mut self, text: String) -> Result<u32, AllocError>
         ensures named { IfOk result (λ piece. piece ≡ length self.old.texts) }
         ensures kept { OnOk result (self.new.texts ≡ self.old.texts ++ string_bytes text ∷ []) }
@@ -59,7 +64,11 @@ impl Pieces {
         Ok(piece)
     }
 
-    /// Puts a piece behind the text.
+    /// Appends a piece to the text, by its number.
+    ///
+    /// # Errors
+    ///
+    /// `AllocError` when memory runs out.
     pub fn append(&mut self, piece: u32) -> Result<(), AllocError>
         requires { piece < length self.old.texts }
         ensures kept { self.new.texts ≡ self.old.texts }
@@ -71,11 +80,15 @@ impl Pieces {
         Ok(())
     }
 
-    /// Writes the whole text; where it is empty no write is made.
+    /// Writes the whole text; an empty one makes no write.
     ///
-    /// Pieces wait in the buffer, which is cleared first and doesn't grow, until it has no room for one more.
-    /// So no write wants memory, and each but the last has as many bytes as the buffer holds, or lacks less
-    /// than a piece of it. Linear in the text and the number of pieces.
+    /// Pieces are collected in `buffer`, which is cleared first and doesn't grow, until it has no room for
+    /// the next one. So writing allocates no memory, and each write but the last fills the buffer up to less
+    /// than a piece. Linear in the text and the number of pieces.
+    ///
+    /// # Errors
+    ///
+    /// `WriteFault` if the writer fails; a proper prefix of the text was written then.
     pub fn write_through<W: Write>(
         &self,
         buffer: &mut Vec<u8>,
@@ -95,7 +108,7 @@ impl Pieces {
     }
 }
 
-/// An empty list, with room for so many pieces where there is memory for them.
+/// An empty list, with room for `room` occurrences of pieces if there is memory for them.
 fn order_for(alloc: Global, room: usize) -> Vec<u32>
     ensures { result.items ≡ [] }
 {

@@ -1,4 +1,8 @@
-//! Bytes that wait in a buffer to be written.
+//! Bytes that are collected in a buffer before they are written.
+//!
+//! The text is written once everything is decided, and no memory is requested from then on: pieces wait in
+//! a buffer that is made before the first write, so a command that is refused memory has written nothing. A
+//! standard buffer grows, or flushes when dropped, and could promise neither.
 
 ghost use Rattle.std.specs.Prelude.{◌≡◌, ◌≤◌, ◌+◌, ◌++◌, length, OnOk, OnErr, vec_len};
 ghost use Rattle.std.specs.Vec.{vec_capacity};
@@ -8,8 +12,8 @@ ghost use Rattle.reqs_pieces.specs.Waiting.{IsWaiting};
 use reqs_io::{WriteFault, write_whole};
 use std::io::Write;
 
-/// Puts a text behind what waits in a buffer, which is written before where it has no room for the text. A
-/// text that is longer than the buffer is written itself.
+/// Appends a text to the buffer, which is written and cleared before if it has no room for the text. Writes a
+/// text that is longer than the buffer directly.
 pub(crate) fn add_text<W: Write>(
     writer: &mut W,
     buffer: &mut Vec<u8>,
@@ -33,7 +37,7 @@ pub(crate) fn add_text<W: Write>(
     }
 }
 
-/// Puts a text into an empty buffer, or writes it where it is longer.
+/// Keeps a text in an empty buffer, or writes it if it is longer than the buffer.
 fn start<W: Write>(writer: &mut W, buffer: &mut Vec<u8>, text: &[u8]) -> Result<(), WriteFault>
     requires { vec_len buffer.old ≡ 0 }
     ensures waits { OnOk result (IsWaiting W.contents writer.old writer.new buffer.new.items text.now) }
@@ -47,7 +51,7 @@ fn start<W: Write>(writer: &mut W, buffer: &mut Vec<u8>, text: &[u8]) -> Result<
     write_whole(writer, text)
 }
 
-/// Puts a text behind what a buffer has that has room for it.
+/// Appends a text to a buffer that has room for it.
 fn keep(buffer: &mut Vec<u8>, text: &[u8])
     requires { vec_len buffer.old + length text.now ≤ vec_capacity buffer.old }
     ensures { buffer.new.items ≡ buffer.old.items ++ text.now }

@@ -8,8 +8,8 @@ use Rattle.reqs_reply.specs.declared.reply.Reply.{Reply}
 use Rattle.reqs_reply.specs.declared.ended.Ended.{Ended}
 use Rattle.reqs_reply.specs.declared.ended.Ended.TheVariants as ended
 
--- a text is answered; two lists that were compared differ as a text says; an input is refused at a place, as
--- a text says; or memory ran out
+-- answered with a text; two lists that were compared differ, with a text; an input is refused at a place,
+-- with a text; or memory ran out
 pub data Ending : Type 0 where
   Answered : List ℕ → Ending
   Different : List ℕ → Ending
@@ -22,7 +22,7 @@ ending_of (ended.Different text) = Different text.items
 ending_of (ended.Refused place text) = Refused place text.items
 ending_of ended.OutOfMemory = OutOfMemory
 
--- an answer of which this holds, or a refusal of which that holds; want of memory may come at any time
+-- an answer of which this holds, or a refusal of which that holds; memory may run out at any time
 abbrev pub EndsIn : (List ℕ → Type 0) → (Place → List ℕ → Type 0) → Ending → Type 0
 EndsIn Answers Refuses (Answered text) = Answers text
 EndsIn Answers Refuses (Different text) = ⊥
@@ -37,25 +37,25 @@ NoAnswer text = ⊥
 abbrev pub NoRefusal : Place → List ℕ → Type 0
 NoRefusal place message = ⊥
 
--- the answer to a question
+-- the answer to a yes-or-no question
 abbrev pub yes_or_no : Bool → List ℕ
 yes_or_no answer = if answer then codes "1" else codes "0"
 
 -- ---- places
 
--- no place is told
+-- no place: all numbers are 0
 abbrev pub nowhere : Place
 nowhere = record { input = 0; line = 0; start = 0; len = 0 }
 
--- so many bytes of the argument of a number, from one on
+-- `len` bytes of the argument of a number, from `start` on
 abbrev pub span : ℕ → ℕ → ℕ → Place
 span input start len = record { input = input; line = 0; start = start; len = len }
 
--- what is said of bytes that stop being UTF-8 at this one, counted from 0
+-- the message for bytes that are not UTF-8 from this one on, counted from 0
 abbrev pub not_text_message : ℕ → List ℕ
 not_text_message offset = codes "not UTF-8 at byte " ++ decimal offset
 
--- the argument of this number is refused, since its bytes are no text
+-- the argument of this number is refused, since its bytes are not UTF-8
 pub record IsNotText (input : ℕ) (bytes : List ℕ) (place : Place) (message : List ℕ) : Type 0 where
   pub no_text : is_utf8 bytes ≡ false
   pub stops : place ≡ span input (utf8_valid_len bytes) 0
@@ -63,7 +63,7 @@ pub record IsNotText (input : ℕ) (bytes : List ℕ) (place : Place) (message :
 
 -- ---- replies
 
--- a reply of this status, with the length of the whole text
+-- a reply with this status, and with the length of the whole text
 abbrev pub reply_with : ℕ → Place → ℕ → Reply
 reply_with status place length = record {
   status = status;
@@ -86,11 +86,11 @@ text_of (Different text) = text
 text_of (Refused place text) = text
 text_of OutOfMemory = []
 
--- a buffer with a text in it: of the text what fits, and behind it the buffer as it was
+-- a buffer with a text in it: the prefix of the text that fits, and then the buffer as it was
 abbrev pub written : List ℕ → List ℕ → List ℕ
 written text buffer = take (length buffer) text ++ drop (length text) buffer
 
--- a call ends so, in one of the ways of which this holds: it replies that, and its buffer has its text
+-- a call ends in one of the ways of which this holds: this is its reply, and its buffer has its text
 pub record RepliesAs (Ends : Ending → Type 0) (old new : List ℕ) (reply : Reply) : Type 0 where
   pub ending : Ending
   pub ends : Ends ending

@@ -3,7 +3,7 @@
 ghost use Rattle.std.specs.Prelude.{◌≡◌};
 ghost use Rattle.reqs_reply.specs.Endings.{written};
 
-/// Writes of a text the front that fits, and leaves the rest of the buffer as it is.
+/// Copies the prefix of a text that fits into a buffer, and leaves the rest of the buffer unchanged.
 pub fn write_front(text: &[u8], buffer: &mut [u8])
     ensures { buffer.new ≡ written text.now buffer.old }
 {

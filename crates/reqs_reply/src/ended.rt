@@ -8,19 +8,19 @@ use crate::buffer::write_front;
 use crate::{Place, Reply};
 use std::alloc::AllocError;
 
-/// How a call ends, with the text that is written for it.
+/// How a call ends, with the text that is written to the caller's buffer.
 #[derive(Debug, Drop)]
 pub enum Ended {
     Answered(Vec<u8>),
     /// Two lists that were compared require different things.
     Different(Vec<u8>),
-    /// An input is refused, for what the text says.
+    /// An input is refused, for the reason in the text.
     Refused(Place, Vec<u8>),
     OutOfMemory,
 }
 
 impl Ended {
-    /// A text is answered, unless memory ran out for it.
+    /// Answered with a text, or out of memory if there was none for the text.
     pub fn answered(text: Result<String, AllocError>) -> Ended
         ensures { MatchResult text (λ text. ending_of result ≡ Answered (string_bytes text))
             (λ error. ending_of result ≡ OutOfMemory) }
@@ -31,7 +31,7 @@ impl Ended {
         }
     }
 
-    /// An input is refused with a message, unless memory ran out for it.
+    /// Refused at a place with a message, or out of memory if there was none for the message.
     pub fn refused(place: Place, message: Result<String, AllocError>) -> Ended
         ensures { MatchResult message (λ text. ending_of result ≡ Refused place (string_bytes text))
             (λ error. ending_of result ≡ OutOfMemory) }
@@ -42,7 +42,7 @@ impl Ended {
         }
     }
 
-    /// What is replied. The buffer takes the front of the text that fits.
+    /// The reply for this ending. Writes the prefix of its text that fits into the buffer.
     pub fn reply(self, buffer: &mut [u8]) -> Reply
         ensures replies { result ≡ reply_of (ending_of self) }
         ensures writes { buffer.new ≡ written (text_of (ending_of self)) buffer.old }
@@ -56,7 +56,7 @@ impl Ended {
     }
 }
 
-/// A reply of this status, whose text is written.
+/// A reply with this status, whose text is written to the buffer.
 fn reply_with(status: u32, place: Place, text: &[u8], buffer: &mut [u8]) -> Reply
     ensures replies { result ≡ reply_with status place (length text.now) }
     ensures writes { buffer.new ≡ written text.now buffer.old }

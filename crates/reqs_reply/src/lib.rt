@@ -1,4 +1,4 @@
-//! What a call from C is answered with: how it ends, what is replied, what is written into the caller's
+//! The reply to a call from C: how the call ends, what is returned and what is written into the caller's
 //! buffer; and the lines of the texts that it is given.
 #![tactic(auto)]
 

@@ -6,8 +6,12 @@ ghost use Rattle.reqs_reply.specs.Lines.{batch_lines, filled_lines, without_last
 
 use std::alloc::{AllocError, Global};
 
-/// What stands between line feeds; one at the end of the text ends its last line. Takes memory for the lines'
-/// places.
+/// The lines of a text, which end in line feeds; the last may be without one. Needs memory for references to
+/// the lines.
+///
+/// # Errors
+///
+/// `AllocError` when memory runs out.
 #[tactic(auto, unfolding(crate::specs::Lines::batch_lines))]
 pub fn batch_lines(alloc: Global, text: &[u8]) -> Result<Vec<&[u8]>, AllocError>
     ensures { IfOk result (λ lines. map (λ line. line.now) lines.items ≡ batch_lines text.now) }
@@ -18,7 +22,7 @@ pub fn batch_lines(alloc: Global, text: &[u8]) -> Result<Vec<&[u8]>, AllocError>
     pieces(alloc, without_last_feed(text))
 }
 
-/// What stands between line feeds.
+/// The pieces of a text between line feeds.
 fn pieces(alloc: Global, text: &[u8]) -> Result<Vec<&[u8]>, AllocError>
     ensures { IfOk result (λ pieces. map (λ piece. piece.now) pieces.items
         ≡ slice_split (λ b. b == 10) text.now) }
@@ -26,7 +30,7 @@ fn pieces(alloc: Global, text: &[u8]) -> Result<Vec<&[u8]>, AllocError>
     text.split(|byte| *byte == b'\n').collect(alloc)
 }
 
-/// The text without the line feed at its end, where there is one.
+/// The text without the line feed at its end, if there is one.
 fn without_last_feed(text: &[u8]) -> &[u8]
     ensures { result.now ≡ without_last_feed text.now }
 {
@@ -37,7 +41,11 @@ fn without_last_feed(text: &[u8]) -> &[u8]
     }
 }
 
-/// What stands between line feeds, without what is empty. Takes memory for the lines' places.
+/// The lines of a text that aren't empty. Needs memory for references to the lines.
+///
+/// # Errors
+///
+/// `AllocError` when memory runs out.
 #[tactic(auto, unfolding(crate::specs::Lines::filled_lines))]
 pub fn filled_lines(alloc: Global, text: &str) -> Result<Vec<&str>, AllocError>
     ensures { IfOk result (λ lines. map (λ line. line.now) lines.items ≡ filled_lines text.now) }

@@ -1,30 +1,30 @@
-//! Where an input is at fault.
+//! The place at which an input is wrong.
 
 ghost use Rattle.std.specs.Prelude.{◌≡◌};
 ghost use Rattle.reqs_reply.specs.Endings.{nowhere, span};
 
-/// Where an input is at fault. A number that isn't told is 0.
+/// The place at which an input is wrong. An unknown number is 0.
 #[derive(Clone, Copy, Debug, PartialEq, Eq)]
 pub struct Place {
     /// The number of the argument, from 1.
     pub input: u32,
     /// The number of the line, from 1.
     pub line: usize,
-    /// Where the part at fault begins, in bytes of the line, or of the text where no line is told.
+    /// The first byte at fault, in the line, or in the text if there is no line.
     pub start: usize,
-    /// How many bytes it has.
+    /// The number of bytes at fault.
     pub len: usize,
 }
 
 impl Place {
-    /// No place is told.
+    /// No place: all numbers are 0.
     pub fn nowhere() -> Place
         ensures { result ≡ nowhere }
     {
         Place::span(0, 0, 0)
     }
 
-    /// So many bytes of an argument.
+    /// A span of `len` bytes of an argument, from `start` on.
     pub fn span(input: u32, start: usize, len: usize) -> Place
         ensures { result ≡ span input start len }
     {

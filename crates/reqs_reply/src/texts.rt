@@ -1,4 +1,4 @@
-//! The texts that arguments are.
+//! The texts of arguments.
 
 ghost use Rattle.std.specs.Prelude.{◌≡◌, true, false, IfOk, IfErr};
 ghost use Rattle.std.specs.Str.{is_utf8};
@@ -9,7 +9,11 @@ use crate::{Ended, Place};
 use std::alloc::Global;
 use std::str;
 
-/// The text that the argument of this number is, or how the call ends that gets no text.
+/// An argument's bytes as text.
+///
+/// # Errors
+///
+/// How the call ends: refused at argument `input`, at the first byte that is not UTF-8, or out of memory.
 pub fn text_of(alloc: Global, input: u32, bytes: &[u8]) -> Result<&str, Ended>
     ensures text { IfOk result (λ text. text.now ≡ bytes.now) }
     ensures is_text { IfOk result (λ text. is_utf8 bytes.now ≡ true) }
@@ -21,7 +25,7 @@ pub fn text_of(alloc: Global, input: u32, bytes: &[u8]) -> Result<&str, Ended>
     }
 }
 
-/// How a call ends whose argument stops being UTF-8 at a byte.
+/// The end of a call whose argument is not UTF-8 from a byte on.
 fn not_text(alloc: Global, input: u32, bytes: &[u8], offset: usize) -> Ended
     requires no_text { is_utf8 bytes.now ≡ false }
     requires stops { offset ≡ utf8_valid_len bytes.now }

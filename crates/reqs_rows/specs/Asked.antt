@@ -1,4 +1,4 @@
--- What is asked of a table: the nodes of an interner, the valuation of an environment with extras, and the
+-- The query of a table: the nodes of an interner, the valuation of an environment with extras, and the
 -- candidates.
 use Rattle.std.specs.Prelude.{List}
 use Rattle.pep508_diagram.specs.Question.{Valuation}

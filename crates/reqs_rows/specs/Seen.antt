@@ -1,4 +1,4 @@
--- The pieces that are known of packages, by the places of their cases.
+-- The cached pieces of packages, by the indices of their cases.
 use Rattle.std.specs.Prelude.{ℕ, List, map, Option}
 use Rattle.reqs_rows.specs.declared.known.Known.{Known}
 

@@ -1,11 +1,11 @@
-//! What is asked of a table.
+//! The query of a table.
 
 use pep508_environment::MarkerEnvironment;
 use pep508_name::ExtraName;
 use pep508_tree::Interner;
 use reqtable_text::Candidates;
 
-/// An environment with extras, the interner of the markers, and the candidates that are chosen among.
+/// An environment with extras, the interner of the markers, and the candidates to select from.
 #[derive(Drop)]
 pub(crate) struct Asked<'a> {
     pub(crate) interner: &'a Interner,

@@ -1,17 +1,17 @@
-//! The pieces that are known, by places.
+//! A cache of pieces, by the indices of cases.
 
 ghost use Rattle.std.specs.Prelude.{◌≡◌, ◌⊎◌, ◌<◌, ℕ, get_or, [], Some, None, OnOk, vec_len};
 ghost use Rattle.reqs_rows.specs.Seen.{pieces_of};
 
 use std::alloc::{AllocError, Global};
 
-/// The pieces of a package's row, by the places of its cases.
+/// The cached pieces of a package's rows, by the indices of its cases.
 #[derive(Drop)]
 pub(crate) struct Known {
     pub(crate) pieces: Vec<Option<u32>>,
 }
 
-/// The piece of the row in the case at a place, where it is known.
+/// The cached piece of the row in the case at an index.
 pub(crate) fn piece_at(pieces: &[Option<u32>], place: usize) -> Option<u32>
     ensures { result ≡ get_or pieces.now place None }
 {
@@ -22,7 +22,7 @@ pub(crate) fn piece_at(pieces: &[Option<u32>], place: usize) -> Option<u32>
     }
 }
 
-/// Keeps the piece of the row in the case at a place. Memory for as many cases.
+/// Caches the piece of the row in the case at an index. Needs memory for the cases up to that one.
 pub(crate) fn keep(
     pieces: &mut Vec<Option<u32>>,
     place: usize,
@@ -36,7 +36,7 @@ pub(crate) fn keep(
     Ok(())
 }
 
-/// Sees that there is the place, of whose case nothing is known where there was none.
+/// Extends the list to contain an index; nothing is cached at the new indices.
 fn pad(pieces: &mut Vec<Option<u32>>, place: usize) -> Result<(), AllocError>
     ensures within { OnOk result (place < vec_len pieces.new) }
     ensures same { OnOk result
@@ -48,7 +48,7 @@ fn pad(pieces: &mut Vec<Option<u32>>, place: usize) -> Result<(), AllocError>
     Ok(())
 }
 
-/// Sees that there is the package at an index, of which nothing is known where there was none.
+/// Extends the list to contain the package at an index; nothing is cached for the new packages.
 pub(crate) fn reach(alloc: Global, known: &mut Vec<Known>, index: usize) -> Result<(), AllocError>
     ensures within { OnOk result (index < vec_len known.new) }
     ensures same { OnOk result ((at : ℕ) →

@@ -1,4 +1,4 @@
-//! The answers of a table as texts of pieces, which are made once for each case.
+//! The answers of a table as texts made of pieces, each of which is made once per case.
 #![tactic(auto)]
 
 mod asked;

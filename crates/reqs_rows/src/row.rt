@@ -25,8 +25,8 @@ use reqtable_table::{Runs, Table};
 use reqtable_text::Candidates;
 use std::alloc::{AllocError, Global};
 
-/// Puts the row of the package at an index behind the text, where it has one: where it lies in the case at a
-/// place.
+/// Appends the row of the package at an index to the text, in its active case, or nothing if no line of it
+/// applies.
 pub(crate) fn put_row<F: Fn(&Version, bool) -> bool>(
     alloc: Global,
     table: &mut Table,
@@ -78,7 +78,8 @@ pub(crate) fn put_row<F: Fn(&Version, bool) -> bool>(
     )
 }
 
-/// The same in the case at a place.
+/// Appends the row of the package at an index to the text, in its case at `place`: the cached piece, or else
+/// a new one.
 fn put_row_in<F: Fn(&Version, bool) -> bool>(
     alloc: Global,
     table: &mut Table,
@@ -130,12 +131,12 @@ fn put_row_in<F: Fn(&Version, bool) -> bool>(
     )?;
     match row {
         Some(row) => put_new(alloc, row, place, asked.candidates, own, pieces),
-        // (a package that lies in a case has a row)
+        // A package with an active case has a row, so this isn't reached.
         None => Ok(()),
     }
 }
 
-/// Puts the row in the case at a place behind the text, as a piece that is known from then on.
+/// Appends the row in the case at an index to the text, as a new piece that is cached.
 fn put_new(
     alloc: Global,
     row: Row,

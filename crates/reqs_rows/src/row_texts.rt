@@ -1,4 +1,11 @@
-//! The texts of rows that are known, and answers that are put together of them.
+//! The cached texts of rows, and answers that are composed of them.
+//!
+//! A row's text depends on the package's case alone, so it is made in the first environment of the case,
+//! and each other environment takes four bytes for it: 1,000 environments take little more memory than one.
+//! Room for these is reserved at once, one place for each environment and package, since a list that
+//! doubles is in memory twice for a moment and up to half empty; room that is never written takes none of
+//! the system's memory. Where so much is refused the list grows as it must, so many packages that mostly do
+//! not apply are answered all the same.
 
 ghost use Rattle.std.specs.Prelude.{◌≡◌, ◌≤◌, ◌+◌, List, [], OnOk};
 ghost use Rattle.std.specs.List.{AllZip, AllByRecursion};
@@ -30,7 +37,7 @@ use reqtable_text::Candidates;
 use std::alloc::{AllocError, Global};
 use std::marker::Model;
 
-/// Which piece the row of a package is in a case in which it was asked for.
+/// A cache of the pieces that are the rows of packages in their cases.
 #[derive(Drop)]
 pub struct RowTexts {
     known: Vec<Known>,
@@ -46,7 +53,7 @@ impl Model for RowTexts {
 }
 
 impl RowTexts {
-    /// No piece is known yet.
+    /// An empty cache.
     pub fn new(alloc: Global) -> RowTexts
         ensures { result ≡ [] }
     {
@@ -55,13 +62,17 @@ impl RowTexts {
         }
     }
 
-    /// Puts the text of the table's answer in an environment with extras behind a text of pieces: what
-    /// `Answer::text` gives of what `answer_among` answers.
+    /// Appends the text of the table's answer in an environment with extras to a text of pieces: what
+    /// `Answer::text` returns for the answer of `answer_among`.
     ///
-    /// Finds the case of each package (`Table::places`). A row is made, and its text, in the first
-    /// environment that lies in its case; from then on it takes a few steps, and the memory of `Pieces` for
-    /// where it stands. All environments go by the pieces, the candidates and the admission by which these
-    /// texts are known.
+    /// Finds the case of each package (`Table::places`). A row and its text are made in the first environment
+    /// with its case; from then on it needs a few steps, and the memory of `Pieces` for one occurrence. All
+    /// environments have to use the pieces, the candidates and the admission with which these texts were
+    /// cached.
+    ///
+    /// # Errors
+    ///
+    /// `AllocError` when memory runs out.
     pub fn put_answer<F: Fn(&Version, bool) -> bool>(
         &mut self,
         alloc: Global,
@@ -108,7 +119,7 @@ impl RowTexts {
     }
 }
 
-/// Puts the rows of all packages behind the text, which lie in the cases at these places.
+/// Appends the rows of all packages to the text, in their active cases, which are at these indices.
 fn put_rows<F: Fn(&Version, bool) -> bool>(
     alloc: Global,
     table: &mut Table,

@@ -1,4 +1,4 @@
--- How a call ends that runs a command on texts at hand: as the command ends on readers of them.
+-- How a call that runs a command on texts ends: as the command ends on readers of them.
 use Rattle.std.specs.Prelude.{◌≡◌, ◌<◌, ◌⊎◌, ℕ, true, List, [], ◌∷◌, length, take, codes, Result, Ok, Err}
 use Rattle.std.specs.Str.{is_utf8}
 use Rattle.reqs_io.specs.declared.TheConstants.{INPUT_LIMIT}
@@ -21,14 +21,14 @@ use Rattle.reqs_markers.specs.Parts.{no_variables}
 use Rattle.reqs_slices.specs.Refusals.{IsToldAt}
 
 -- why a command refuses its inputs: one is longer than 16,777,216 bytes, and those before it aren't; or none
--- is, for what they say
+-- is, and they are invalid
 abbrev pub RefusesInputs : Refusing → List (List ℕ) → RunFault → Type 0
 RefusesInputs Refuses inputs (TooLong input) =
     AreWithin (take (place_of input) inputs) × (INPUT_LIMIT < length (of_input inputs input))
 RefusesInputs Refuses inputs fault = AreWithin inputs × Refuses inputs fault
 
--- a command on these inputs ends so, by what it may answer and for what it may refuse them, which the place
--- and the message tell
+-- how a command on these inputs ends, by what it may answer and the faults for which it may refuse them,
+-- which determine the place and the message
 abbrev pub CommandEnds : Answering → Refusing → (RunFault → Place → List ℕ → Type 0) → List (List ℕ)
     → Ending → Type 0
 CommandEnds Answers Refuses Tells inputs (Answered text) =
@@ -39,7 +39,8 @@ CommandEnds Answers Refuses Tells inputs (Refused place message) =
     (fault : RunFault) × RefusesInputs Refuses inputs fault × Tells fault place message
 CommandEnds Answers Refuses Tells inputs OutOfMemory = Unit {0}
 
--- a call ends so with the extras that are the lines of an argument; or that is no text, or memory ran out
+-- how a call ends with the extras on the lines of an argument; or the argument is not UTF-8, or memory ran
+-- out
 abbrev pub WithExtras : ℕ → (List (List ℕ) → Ending → Type 0) → List ℕ → Ending → Type 0
 WithExtras argument Ends extras ending =
     ((is_utf8 extras ≡ true) × Ends (filled_lines extras) ending)
@@ -47,7 +48,7 @@ WithExtras argument Ends extras ending =
 
 -- ---- the commands
 
--- the names of the inputs, as messages have them
+-- the names of the inputs in messages
 abbrev pub check_names : List (List ℕ)
 check_names = codes "requirements" ∷ codes "environment" ∷ codes "candidates" ∷ []
 
@@ -99,9 +100,9 @@ NormalEnds requirements =
     CommandEnds (NormalAnswersAs format.Text no_variables) (NormalRefuses no_variables)
     (IsToldAt list_names 0) (requirements ∷ [])
 
--- ---- what a command returned
+-- ---- the result of a command
 
--- a call tells so what a command returned that wrote this text
+-- how a call ends by the result of a command that wrote this text
 abbrev pub TellsRun : List (List ℕ) → ℕ → Result Status RunFault → List ℕ → Ending → Type 0
 TellsRun names extras ran written (Answered text) = (ran ≡ Ok status.Answered) × (text ≡ written)
 TellsRun names extras ran written (Different text) = (ran ≡ Ok status.Different) × (text ≡ written)

@@ -1,4 +1,4 @@
--- What is answered on many markers in one environment (PEP 508, "Environment Markers").
+-- The reply on many markers in one environment (PEP 508, "Environment Markers").
 use Rattle.std.specs.Prelude.{◌≡◌, ℕ, List, [], ◌∷◌, map, codes, Result, Ok}
 use Rattle.pep508_environment.specs.Environment.{EnvironmentRecord}
 use Rattle.pep508_evaluation.specs.Valuations.{valuation_of}
@@ -21,21 +21,22 @@ pub record Surroundings : Type 0 where
 abbrev pub together : List (List ℕ) → EnvironmentRecord → Surroundings
 together extras environment = record { extras = extras; environment = environment }
 
--- what the texts of extras and of an environment are, or the first thing at fault: that of the extras first
+-- the parsed extras and environment, or the first thing at fault: that of the extras first
 abbrev pub surroundings_of : List (List ℕ) → List ℕ → Result Surroundings Cause
 surroundings_of extras environment = do
   names ← extras_of extras
   read ← environment_from Second 1 environment
   Ok (together names read)
 
--- the text has a mark for each line, by whether the marker that the line is holds in these surroundings
+-- the text has a byte for each line, by whether the marker on the line holds in this environment with the
+-- extras
 pub record AreHeld (texts : Result Surroundings Cause) (markers text : List ℕ) : Type 0 where
   pub read : Surroundings
   pub is_read : texts ≡ Ok read
   pub is_text :
       text ≡ map (mark_in (valuation_of read.environment read.extras)) (batch_lines markers)
 
--- the texts are refused for what a fault says, which the place and the message tell
+-- the texts are refused for a fault, which determines the place and the message
 pub record RefusesSurroundings (texts : Result Surroundings Cause) (place : Place) (message : List ℕ)
     : Type 0 where
   pub fault : RunFault
@@ -45,7 +46,7 @@ pub record RefusesSurroundings (texts : Result Surroundings Cause) (place : Plac
 abbrev pub HoldsIn : Result Surroundings Cause → List ℕ → Ending → Type 0
 HoldsIn texts markers = EndsIn (AreHeld texts markers) (RefusesSurroundings texts)
 
--- how a call ends that is to say which markers hold
+-- how a call for which markers hold ends
 abbrev pub HoldEnds : List ℕ → List ℕ → List ℕ → Ending → Type 0
 HoldEnds markers environment =
     WithExtras 3 (λ extras. HoldsIn (surroundings_of extras environment) markers)

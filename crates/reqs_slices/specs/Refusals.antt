@@ -1,4 +1,4 @@
--- What is said of texts that a command refuses, and where.
+-- The messages and places for texts that a command refuses.
 use Rattle.std.specs.Prelude.{◌≡◌, ℕ, List, IfSome}
 use Rattle.reqs_ends.specs.declared.fault.Input.{Input}
 use Rattle.reqs_ends.specs.declared.fault.Input.TheVariants.{First, Second, Third}
@@ -16,15 +16,15 @@ argument_of First = 1
 argument_of Second = 2
 argument_of Third = 3
 
--- an argument, of which no more is told
+-- an argument, without a place in it
 abbrev pub whole : ℕ → Place
 whole argument = span argument 0 0
 
--- a line of an argument, and so many bytes of it
+-- `len` bytes of a line of an argument, from `start` on
 abbrev pub in_line : ℕ → ℕ → ℕ → ℕ → Place
 in_line argument line start len = record { input = argument; line = line; start = start; len = len }
 
--- the place that a fault tells, where the argument of this number has the extras
+-- the place of a fault, where the argument of this number has the extras
 abbrev pub place_told : ℕ → RunFault → Place
 place_told extras (faults.Read input) = whole (argument_of input)
 place_told extras faults.Write = nowhere
@@ -44,8 +44,8 @@ place_told extras (faults.Version input index name) = whole (argument_of input)
 place_told extras (faults.Candidate input number cause) = in_line (argument_of input) number 0 0
 place_told extras (faults.TooManyCases input limit name) = whole (argument_of input)
 
--- a fault that refuses an input is told at its place by a message, in which inputs have these names; where
--- the message is in part that of the crate `url`, its front is told
+-- a fault that refuses an input is reported at its place by a message, in which inputs have these names; of a
+-- message of the crate `url` only the start is claimed
 pub record IsToldAt (names : List (List ℕ)) (extras : ℕ) (fault : RunFault) (place : Place)
     (message : List ℕ) : Type 0 where
   pub refuses : status_of fault ≡ 2

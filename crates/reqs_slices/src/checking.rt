@@ -15,17 +15,22 @@ use reqs_markers::no_variables;
 use reqs_reply::{Ended, Reply, filled_lines, text_of};
 use std::alloc::Global;
 
-/// How messages name the inputs of `check`.
+/// The names of the inputs of `check` in messages.
 const CHECK_NAMES: [&str; 3] = ["requirements", "environment", "candidates"];
 
-/// How messages name the inputs of `matrix`.
+/// The names of the inputs of `matrix` in messages.
 const MATRIX_NAMES: [&str; 3] = ["requirements", "environments", "candidates"];
 
-/// The number of the argument that has the extras.
+/// The number of the argument with the extras.
 const EXTRAS: u32 = 4;
 
-/// Answers as `reqs::check` does. The extras stand one a line; empty lines are passed over. Takes memory for
-/// copies of the inputs, beside what the command takes.
+/// Replies with what `reqs::check` writes. `extras` has one extra per line; empty lines are skipped. Needs
+/// memory for copies of the inputs, in addition to what the command needs.
+///
+/// # Errors
+///
+/// Refuses what `reqs::check` does, with its message and the place of what is wrong. Status 3 when memory
+/// runs out.
 pub fn check(
     alloc: Global,
     requirements: &[u8],
@@ -95,8 +100,14 @@ fn checked_with(
     ended(alloc, ran, text, &CHECK_NAMES, EXTRAS)
 }
 
-/// Answers as `reqs::matrix` does, with at most so many cases for a package. The extras stand one a line;
-/// empty lines are passed over. Takes memory for copies of the inputs, beside what the command takes.
+/// Replies with what `reqs::matrix` writes, with at most `limit` cases for a package. `extras` has one extra
+/// per line; empty lines are skipped. Needs memory for copies of the inputs, in addition to what the command
+/// needs.
+///
+/// # Errors
+///
+/// Refuses what `reqs::matrix` does, with its message and the place of what is wrong. Status 3 when memory
+/// runs out.
 pub fn matrix(
     alloc: Global,
     requirements: &[u8],

@@ -1,4 +1,4 @@
-//! How a call ends whose command ended.
+//! The end of a call by the result of its command.
 
 ghost use Rattle.std.specs.Prelude.{map};
 ghost use Rattle.reqs_reply.specs.Endings.{ending_of};
@@ -9,8 +9,8 @@ use reqs_ends::{RunFault, Status};
 use reqs_reply::Ended;
 use std::alloc::Global;
 
-/// How a call ends by what a command returned that wrote this text. The inputs have these names, and the
-/// argument of the number `extras` has the extras.
+/// The end of a call whose command returned `ran` and wrote this text. `names` are those of the inputs, and
+/// the argument of the number `extras` has the extras.
 pub(crate) fn ended(
     alloc: Global,
     ran: Result<Status, RunFault>,

@@ -16,15 +16,19 @@ use reqs_markers::mark_of_line;
 use reqs_reply::{Ended, Reply, batch_lines, filled_lines, text_of};
 use std::alloc::{AllocError, Global};
 
-/// How messages name the inputs.
+/// The names of the inputs in messages.
 const NAMES: [&str; 2] = ["", "environment"];
 
-/// The number of the argument that has the extras.
+/// The number of the argument with the extras.
 const EXTRAS: u32 = 3;
 
-/// Answers with a byte for each line of a text: `1` where the marker that the line is holds in the
-/// environment, which is JSON as of `check`, with the extras, one a line; `0` where it doesn't; `?` where the
-/// line is no marker (PEP 508, "Environment Markers"). Each marker is read for itself.
+/// Replies with a byte for each line of `markers`: `1` if the marker on the line holds in the environment,
+/// which is JSON as for `check`, with the extras, one per line; `0` if it doesn't; `?` if the line is not a
+/// marker (PEP 508, "Environment Markers"). Each marker is read on its own.
+///
+/// # Errors
+///
+/// Refuses an extra that is not a name and an invalid environment. Status 3 when memory runs out.
 pub fn markers_hold(
     alloc: Global,
     markers: &[u8],
@@ -65,7 +69,7 @@ fn held_with(alloc: Global, markers: &[u8], environment: &[u8], extras: &[&str])
     }
 }
 
-/// The extras and the environment.
+/// The parsed extras and environment.
 fn surroundings(
     alloc: Global,
     environment: &[u8],
@@ -80,7 +84,7 @@ fn surroundings(
     Ok((names, environment))
 }
 
-/// A mark for each line.
+/// The byte for each line.
 fn marks(
     alloc: Global,
     markers: &[u8],

@@ -1,4 +1,4 @@
-//! What the library for C answers on lists: the commands of `reqs` over bytes; and which markers hold.
+//! The C library's calls on lists: the commands of `reqs` over bytes, and which markers hold.
 #![tactic(auto)]
 
 mod checking;

@@ -16,17 +16,23 @@ use reqs_markers::no_variables;
 use reqs_reply::{Ended, Reply};
 use std::alloc::Global;
 
-/// How messages name the inputs of `same`.
+/// The names of the inputs of `same` in messages.
 const SAME_NAMES: [&str; 2] = ["left", "right"];
 
-/// How messages name the input of the others.
+/// The name of the input of the other commands in messages.
 const LIST_NAMES: [&str; 1] = ["requirements"];
 
-/// The number of an argument that isn't there.
+/// The number of the argument with the extras where there is none.
 const NO_EXTRAS: u32 = 0;
 
-/// Answers as `reqs::same` does, with at most so many cases for a package. Lists that don't require the same
-/// are told by `Ended::Different`. Takes memory for copies of the lists, beside what the command takes.
+/// Replies with what `reqs::same` writes, with at most `limit` cases for a package. Ends with
+/// `Ended::Different` for lists that don't require the same. Needs memory for copies of the lists, in
+/// addition to what the command needs.
+///
+/// # Errors
+///
+/// Refuses what `reqs::same` does, with its message and the place of what is wrong. Status 3 when memory runs
+/// out.
 pub fn same(alloc: Global, left: &[u8], right: &[u8], limit: u64, out: &mut [u8]) -> Reply
     ensures { RepliesAs (SameEnds limit left.now right.now) out.old out.new result }
 {
@@ -62,8 +68,13 @@ fn compared_with(alloc: Global, left: &[u8], right: &[u8], limit: u64, vars: &Va
     ended(alloc, ran, text, &SAME_NAMES, NO_EXTRAS)
 }
 
-/// Answers as `reqs::conflicts` does, with at most so many cases for a package. Takes memory for a copy of
-/// the list, beside what the command takes.
+/// Replies with what `reqs::conflicts` writes, with at most `limit` cases for a package. Needs memory for a
+/// copy of the list, in addition to what the command needs.
+///
+/// # Errors
+///
+/// Refuses what `reqs::conflicts` does, with its message and the place of what is wrong. Status 3 when memory
+/// runs out.
 pub fn conflicts(alloc: Global, requirements: &[u8], limit: u64, out: &mut [u8]) -> Reply
     ensures { RepliesAs (ConflictsEnd limit requirements.now) out.old out.new result }
 {
@@ -98,7 +109,13 @@ fn contradicted_with(alloc: Global, requirements: &[u8], limit: u64, vars: &Vars
     ended(alloc, ran, text, &LIST_NAMES, NO_EXTRAS)
 }
 
-/// Answers as `reqs::normal` does. Takes memory for a copy of the list, beside what the command takes.
+/// Replies with what `reqs::normal` writes. Needs memory for a copy of the list, in addition to what the
+/// command needs.
+///
+/// # Errors
+///
+/// Refuses what `reqs::normal` does, with its message and the place of what is wrong. Status 3 when memory
+/// runs out.
 pub fn normal(alloc: Global, requirements: &[u8], out: &mut [u8]) -> Reply
     ensures { RepliesAs (NormalEnds requirements.now) out.old out.new result }
 {

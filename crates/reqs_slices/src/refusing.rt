@@ -1,4 +1,4 @@
-//! How a call ends whose inputs are refused.
+//! The end of a call whose inputs are refused.
 
 ghost use Rattle.std.specs.Prelude.{◌≡◌, map};
 ghost use Rattle.reqs_reply.specs.Endings.{EndsIn, NoAnswer, ending_of};
@@ -8,7 +8,7 @@ use reqs_ends::{Input, RunFault};
 use reqs_reply::{Ended, Place};
 use std::alloc::Global;
 
-/// How a call ends whose inputs, which have these names, are refused for a fault, or for which memory ran
+/// The end of a call whose inputs, which have these names, are refused for a fault, or for which memory ran
 /// out. The argument of the number `extras` has the extras.
 pub(crate) fn refused(alloc: Global, fault: &RunFault, names: &[&str], extras: u32) -> Ended
     ensures { EndsIn NoAnswer (IsToldAt (map (λ n. n.now) names.now) extras fault.now) (ending_of result) }
@@ -19,7 +19,7 @@ pub(crate) fn refused(alloc: Global, fault: &RunFault, names: &[&str], extras: u
     Ended::refused(place_told(fault, extras), fault.text(alloc, names))
 }
 
-/// The place that a fault tells.
+/// The place of a fault.
 fn place_told(fault: &RunFault, extras: u32) -> Place
     ensures { result ≡ place_told extras fault.now }
 {
@@ -46,7 +46,7 @@ fn place_told(fault: &RunFault, extras: u32) -> Place
     }
 }
 
-/// So many bytes of a line of an input.
+/// A span of `len` bytes of a line of an input, from `start` on.
 fn in_line(input: Input, line: usize, start: usize, len: usize) -> Place
     ensures { result ≡ in_line (argument_of input) line start len }
 {

@@ -1,4 +1,4 @@
-//! A table that is asked more than once, proved from what the public contracts and laws say.
+//! A table that is queried more than once, proved from the public contracts and laws.
 
 ghost use Rattle.std.specs.Prelude.{◌≡◌, [], List, IfOk, map};
 ghost use Rattle.std.specs.List.{AllByRecursion};
@@ -47,7 +47,7 @@ fn both_answers<F: Fn(&Version, bool) -> bool>(
     Ok((first, second))
 }
 
-/// The answer after one before it, when another list was read in between.
+/// The answer after an earlier one, with another list read in between.
 fn answer_after_reading<F: Fn(&Version, bool) -> bool>(
     alloc: Global,
     table: &mut Table,
@@ -70,7 +70,7 @@ fn answer_after_reading<F: Fn(&Version, bool) -> bool>(
     table.answer(alloc, interner, environment, &[], candidates, admission)
 }
 
-/// How many specifiers a table was asked that nobody asked yet.
+/// The number of specifiers tested by a table that wasn't queried yet.
 fn tests_at_first(
     alloc: Global,
     requirements: Requirements,

@@ -1,4 +1,4 @@
-//! Copies of lists, of their parts and of an answer equal what they are of.
+//! Copies of lists, of their parts and of an answer equal the originals.
 
 use crate::lists::{answer_of, lists_of};
 use reqtable_answer::{Answer, Row};
@@ -20,7 +20,7 @@ fn is_row_copied(alloc: Global, row: &Row) -> Result<bool, AllocError> {
     Ok(row.try_clone(alloc)? == *row)
 }
 
-/// Whether lists, and what they hold, equal their copies.
+/// Whether lists and their parts equal their copies.
 fn are_lists_copied(
     alloc: Global,
     read: &Requirements,
@@ -41,7 +41,7 @@ fn are_lists_copied(
     Ok(copy == *read && candidates.try_clone(alloc)? == *candidates)
 }
 
-/// Whether an answer equals its copy, and each row its own.
+/// Whether an answer and each of its rows equal their copies.
 fn is_answer_copied(alloc: Global, answer: &Answer) -> Result<bool, AllocError> {
     for row in &answer.rows {
         if !is_row_copied(alloc, row)? {

@@ -1,5 +1,4 @@
-//! Readers and writers that are interrupted, fail or never end, and the limits up to which they are
-//! borne with.
+//! Readers and writers that are interrupted, fail or never end, and the limits up to which this is tolerated.
 
 use pep508_url::Vars;
 use reqs_answers::{check, matrix};
@@ -10,8 +9,8 @@ use std::alloc::{AllocError, Global};
 use std::io::{self, ErrorKind, Read, Write};
 use std::test::Fail;
 
-/// Gives one byte an ask, each behind so many interruptions, of which so many are left, and fails at its end
-/// where it is told to. It counts how often it was asked.
+/// A reader of one byte per call, each after `pause` interruptions, of which `left` are left. It fails at its
+/// end if `fails` is set, and counts its calls.
 #[derive(Drop)]
 struct Hesitant<'a> {
     rest: &'a [u8],
@@ -44,7 +43,7 @@ impl Read for Hesitant<'_> {
     }
 }
 
-/// Never ends.
+/// A reader that never ends.
 #[derive(Drop)]
 struct Endless;
 
@@ -54,27 +53,27 @@ impl Read for Endless {
     }
 }
 
-/// What a writer bears: so many writes, so many bytes at a write, and so many interruptions before each, of
-/// which so many are left before the first.
+/// The limits of a writer: the number of writes, the bytes per write, and the interruptions before each write
+/// and before the first one.
 type Width = (usize, usize, u32, u32);
 
-/// Takes all at once.
+/// Writes everything at once.
 const WIDE: Width = (usize::MAX, usize::MAX, 0, 0);
 
-/// Takes nothing.
+/// Writes nothing.
 const CLOSED: Width = (usize::MAX, 0, 0, 0);
 
-/// Takes one byte a write, so many in all, and is interrupted before each.
+/// Writes one byte per call, `room` bytes in all, and is interrupted before each.
 const fn narrow(room: usize) -> Width {
     (room, 1, 1, 1)
 }
 
-/// Is interrupted so often, and then takes all.
+/// Is interrupted `interruptions` times, and then writes everything.
 const fn busy(interruptions: u32) -> Width {
     (usize::MAX, usize::MAX, 0, interruptions)
 }
 
-/// A writer that keeps what it takes.
+/// A writer that keeps what it writes.
 #[derive(Drop)]
 struct Outlet {
     taken: Vec<u8>,
@@ -185,7 +184,7 @@ fn hesitantly(rest: &[u8], fails: bool) -> Hesitant<'_> {
     }
 }
 
-/// Runs `matrix`, or else `check`, with a reader in the place of each input, of which the one of this number
+/// Runs `matrix` or `check` with a hesitant reader for each input, of which the one with the number `failing`
 /// fails at its end.
 fn run(
     alloc: Global,
@@ -226,7 +225,7 @@ fn run(
     }
 }
 
-/// What a writer took of the command's answer, how the command ended, and how many interruptions were left.
+/// What a writer wrote of the command's answer, how the command ended, and how many interruptions were left.
 fn run_told(
     alloc: Global,
     is_matrix: bool,
@@ -240,14 +239,14 @@ fn run_told(
     format!(in alloc; "{text}, {left} left")
 }
 
-/// `check` with these ends.
+/// The result of `check` with these ends.
 fn checked(alloc: Global, failing: usize, width: Width) -> Result<String, AllocError> {
     let mut output = Outlet::new(alloc, width);
     run_told(alloc, false, failing, ENVIRONMENT.as_bytes(), &mut output)
 }
 
-// A reader that is interrupted is asked again, and the one that failed is named. A writer takes all of the
-// answer, or a front of it where it fails, and may be interrupted 1024 times in a row.
+// A reader that is interrupted is called again, and the one that failed is named. A writer writes the whole
+// answer, or a prefix of it if it fails, and may be interrupted 1024 times in a row.
 #[test]
 fn tells_how_check_ends(rt: HostRuntime) -> Result<(), Fail> {
     for (failing, width, wanted) in [
@@ -270,14 +269,14 @@ fn tells_how_check_ends(rt: HostRuntime) -> Result<(), Fail> {
     Ok(())
 }
 
-/// `matrix` with these ends, on the environment above twice.
+/// The result of `matrix` with these ends, on the environment above twice.
 fn matrix_told(alloc: Global, failing: usize, room: usize) -> Result<String, AllocError> {
     let environments = format!(in alloc; "[{ENVIRONMENT}, {ENVIRONMENT}]")?;
     let mut output = Outlet::new(alloc, narrow(room));
     run_told(alloc, true, failing, environments.as_bytes(), &mut output)
 }
 
-// Each reader and the writer, with all of the answers or a front of them.
+// Each reader and the writer, with all of the answers or a prefix of them.
 #[test]
 fn tells_how_matrix_ends(rt: HostRuntime) -> Result<(), Fail> {
     for (failing, room, wanted) in [
@@ -315,7 +314,7 @@ fn writes_each_piece_behind_interruptions(rt: HostRuntime) -> Result<(), Fail> {
     Ok(())
 }
 
-/// Is interrupted so often, and ends.
+/// A reader without bytes, which is interrupted `left` times and then ends.
 fn interrupted(left: u64) -> Hesitant<'static> {
     Hesitant {
         rest: b"",

@@ -1,5 +1,5 @@
 //! Tests of the public calls of requirement and candidate lists, the judge and the commands: what no contract
-//! says of them.
+//! states of them.
 #![tactic(auto)]
 
 #[cfg(test)]
@@ -8,6 +8,8 @@ mod again;
 mod copies;
 #[cfg(test)]
 mod ends;
+#[cfg(test)]
+mod formulas;
 #[cfg(test)]
 mod lists;
 #[cfg(test)]

@@ -13,7 +13,7 @@ use std::alloc::{AllocError, Global};
 use std::fmt::Write;
 use std::test::Fail;
 
-/// A line as `2 foo[a]>=1.0`, with `; ..` behind it where it has a marker that may fail.
+/// Appends a line as `2 foo[a]>=1.0`, followed by `; ..` if it has a marker that may fail.
 fn push_line(text: &mut String, line: &Line) -> Result<(), AllocError> {
     let requirement = &line.requirement;
     write!(text, "{} {}", line.number, requirement.name)?;
@@ -37,7 +37,7 @@ fn push_lines(text: &mut String, read: Requirements) -> Result<(), AllocError> {
     Ok(())
 }
 
-/// The lines of a list as they are shown, or what is wrong with it.
+/// Appends the lines of a list, or what is wrong with it.
 fn push_read(
     text: &mut String,
     read: Result<Requirements, RequirementsError>,
@@ -79,7 +79,7 @@ fn reads_requirement_lines(rt: HostRuntime) -> Result<(), Fail> {
     Ok(())
 }
 
-/// The lists of two texts. A text that is refused is told as want of memory, which no test has.
+/// The lists in two texts. An invalid text is returned as running out of memory, which no test has.
 pub fn lists_of(
     alloc: Global,
     lines: &str,
@@ -94,7 +94,7 @@ pub fn lists_of(
     }
 }
 
-/// The answer to all lines of a list, where only a line that names a pre-release admits versions.
+/// The answer to all lines of a list, with an admission of versions only if a line names a pre-release.
 pub fn answer_of(
     alloc: Global,
     read: &Requirements,
@@ -140,7 +140,7 @@ fn push_candidates(text: &mut String, read: &Candidates) -> Result<(), AllocErro
     Ok(())
 }
 
-/// The candidates of a list, each in a line.
+/// The candidates of a list, each on a line.
 fn candidates_read(alloc: Global, lines: &str) -> Result<String, AllocError> {
     let read = Candidates::parse(alloc, lines.as_bytes()).or(Err(AllocError))?;
     let mut text = String::new(alloc);

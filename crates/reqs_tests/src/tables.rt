@@ -16,8 +16,8 @@ use std::alloc::{AllocError, Global};
 use std::fmt::Write;
 use std::test::Fail;
 
-/// CPython 3.11.4 on Linux.
-fn environment(alloc: Global) -> Result<MarkerEnvironment, AllocError> {
+/// The environment of CPython 3.11.4 on Linux.
+pub fn environment(alloc: Global) -> Result<MarkerEnvironment, AllocError> {
     let builder = MarkerEnvironmentBuilder {
         implementation_name: "cpython",
         implementation_version: "3.11.4",
@@ -34,7 +34,7 @@ fn environment(alloc: Global) -> Result<MarkerEnvironment, AllocError> {
     MarkerEnvironment::try_from(alloc, builder).or(Err(AllocError))
 }
 
-/// The text of a table's answer, and how many specifiers were asked for it.
+/// The text of a table's answer, and how many specifiers were tested for it.
 fn answered(alloc: Global, lines: &str, candidates: &str) -> Result<String, AllocError> {
     let vars = Vars::new(alloc, &[], "/w")?;
     let mut interner = Interner::new(alloc);
@@ -92,7 +92,7 @@ fn only_candidates_that_are_not_plain_are_asked(rt: HostRuntime) -> Result<(), F
     Ok(())
 }
 
-/// The cases of a package by the numbers of their lines, each with whether a specifier of theirs has a
+/// The cases of a package by the numbers of their lines, each with whether one of its specifiers names a
 /// pre-release; or why there is no table.
 fn cases_shown(alloc: Global, lines: &str, name: &str, limit: u64) -> Result<String, AllocError> {
     let vars = Vars::new(alloc, &[], "/w")?;
@@ -135,7 +135,7 @@ fn cases_stand_by_their_lines(rt: HostRuntime) -> Result<(), Fail> {
     Ok(())
 }
 
-/// Candidates by their places.
+/// Appends the indices of candidates.
 fn push_places(text: &mut String, placed: &[Placed<'_>]) -> Result<(), AllocError> {
     for one in placed {
         let place = one.place;
@@ -144,7 +144,7 @@ fn push_places(text: &mut String, placed: &[Placed<'_>]) -> Result<(), AllocErro
     Ok(())
 }
 
-/// How many candidates there are, their order, and those of a package.
+/// Appends the number of candidates, their order, and the candidates of a package.
 fn push_order(
     text: &mut String,
     ordered: &Ordered<'_>,

@@ -1,4 +1,4 @@
--- What is answered on the texts of lists of specifiers (PEP 440).
+-- The replies on the texts of lists of specifiers (PEP 440).
 use Rattle.std.specs.Prelude.{◌≡◌, ◌⊎◌, ℕ, ◌-◌, true, if◌then◌else◌, List, [], ◌∷◌, ◌++◌, map, Option, Some}
 use Rattle.std.specs.Prelude.{None, Ok, Err}
 use Rattle.std.specs.List.{flat_map}
@@ -16,12 +16,12 @@ use Rattle.reqs_reply.specs.Endings.{Ending, EndsIn, span, IsNotText}
 use Rattle.reqs_reply.specs.Lines.{batch_lines}
 use Rattle.reqs_versions.specs.Versions.{version_in}
 
--- bytes are the text of this list, whose members stand by their versions
+-- bytes are the text of this list, whose specifiers are in the order of their versions
 abbrev pub IsListIn : List ℕ → List SpecifierRecord → Type 0
 IsListIn bytes list = (is_utf8 bytes ≡ true) × ReadsList (Ok list) bytes
 
--- the argument of this number is a text whose first piece that is no specifier stands there, and the message
--- tells its fault
+-- the argument of this number is a text whose first invalid piece is at this place, and the message is its
+-- fault
 pub record IsNoList (input : ℕ) (bytes : List ℕ) (place : Place) (message : List ℕ) : Type 0 where
   pub fault : ListFault
   pub error : VersionSpecifierParseError
@@ -42,29 +42,29 @@ RefusesList input bytes place message =
 abbrev pub as_lines : List (List ℕ) → List ℕ
 as_lines texts = flat_map (λ text. text ++ (10 ∷ [])) texts
 
--- the text has the members of the list that bytes are
+-- the text has the specifiers of the list in these bytes
 pub record AreMembers (bytes text : List ℕ) : Type 0 where
   pub members : List SpecifierRecord
   pub is_list : IsListIn bytes members
   pub is_text : text ≡ as_lines (map specifier_text members)
 
--- how a call ends that is to give the members of a list
+-- how a call for the specifiers of a list ends
 abbrev pub SpecifiersEnd : List ℕ → Ending → Type 0
 SpecifiersEnd bytes = EndsIn (AreMembers bytes) (RefusesList 1 bytes)
 
 -- ---- matching
 
--- `1` where the list takes the version, `0` where it doesn't, `?` where there is none
+-- `1` if the list accepts the version, `0` if it doesn't, `?` if there is none
 abbrev pub taken_mark : List SpecifierRecord → Option VersionRecord → ℕ
 taken_mark members None = 63
 taken_mark members (Some version) = if matches_all members version then 49 else 48
 
--- the text has a mark for each line, by the version that the line is
+-- the text has a byte for each line, by the version on the line
 pub record AreTaken (bytes versions text : List ℕ) : Type 0 where
   pub members : List SpecifierRecord
   pub is_list : IsListIn bytes members
   pub is_text : text ≡ map (λ line. taken_mark members (version_in line)) (batch_lines versions)
 
--- how a call ends that is to say which versions a list takes
+-- how a call for which versions a list accepts ends
 abbrev pub TakesEnd : List ℕ → List ℕ → Ending → Type 0
 TakesEnd bytes versions = EndsIn (AreTaken bytes versions) (RefusesList 1 bytes)

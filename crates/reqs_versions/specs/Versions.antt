@@ -1,4 +1,4 @@
--- What is answered on the texts of versions (PEP 440).
+-- The replies on the texts of versions (PEP 440).
 use Rattle.std.specs.Prelude.{◌≡◌, ◌⊎◌, ℕ, ℤ, pos, negsuc, true, if◌then◌else◌, List, length}
 use Rattle.std.specs.Prelude.{Option, Some, None}
 use Rattle.std.specs.Prelude.{Err}
@@ -16,17 +16,17 @@ use Rattle.pep440_key.specs.Key.{version_bytes}
 use Rattle.reqs_reply.specs.declared.place.Place.{Place}
 use Rattle.reqs_reply.specs.Endings.{Ending, EndsIn, span, written, IsNotText}
 
--- the version that bytes are, if they are the text of one
+-- the version in these bytes, if they are the text of one
 unfoldable pub version_in : List ℕ → Option VersionRecord
 version_in bytes = if is_utf8 bytes then version_of bytes else None
 
--- the text is the normal one of the version that bytes are
+-- the text is the normal one of the version in these bytes
 pub record IsNormalText (bytes text : List ℕ) : Type 0 where
   pub version : VersionRecord
   pub is_version : version_in bytes ≡ Some version
   pub is_text : text ≡ version_text version
 
--- bytes are a text that is refused for its first fault, which the message tells
+-- bytes are a text that is refused for its first fault, which is in the message
 pub record IsNoVersion (bytes : List ℕ) (place : Place) (message : List ℕ) : Type 0 where
   pub fault : VersionFault
   pub error : VersionParseError
@@ -36,11 +36,11 @@ pub record IsNoVersion (bytes : List ℕ) (place : Place) (message : List ℕ) :
   pub stands : place ≡ span 1 0 (length bytes)
   pub says : message ≡ version_error_text error
 
--- why they are refused
+-- why bytes are refused
 abbrev pub RefusesVersion : List ℕ → Place → List ℕ → Type 0
 RefusesVersion bytes place message = IsNotText 1 bytes place message ⊎ IsNoVersion bytes place message
 
--- how a call ends that is to give the normal text of a version
+-- how a call for the normal text of a version ends
 abbrev pub VersionEnds : List ℕ → Ending → Type 0
 VersionEnds bytes = EndsIn (IsNormalText bytes) (RefusesVersion bytes)
 
@@ -51,33 +51,32 @@ order_code Less = negsuc 0
 order_code Equal = pos 0
 order_code Greater = pos 1
 
--- -1, 0 or 1 for two versions by their order, and 2 where one is none
+-- -1, 0 or 1 for two versions by their order, and 2 if one is invalid
 abbrev pub order_of : Option VersionRecord → Option VersionRecord → ℤ
 order_of (Some a) (Some b) = order_code (version_cmp a b)
 order_of (Some a) None = pos 2
 order_of None b = pos 2
 
--- what is answered on the order of two texts' versions; 3 stands for want of memory, which may come at any
--- time
+-- the result for the order of two texts' versions; 3 means that memory ran out, which may happen at any time
 abbrev pub IsOrder : List ℕ → List ℕ → ℤ → Type 0
 IsOrder left right code = (code ≡ pos 3) ⊎ (code ≡ order_of (version_in left) (version_in right))
 
 -- ---- keys
 
--- what is given for a version's key: -2 where there is none, and nothing is written; or its length, and of it
--- is written what fits
+-- the result for a version's key: -2 if there is none, and nothing is written; or its length, and its prefix
+-- that fits is written
 abbrev pub KeyGiven : Option VersionRecord → List ℕ → List ℕ → ℤ → Type 0
 KeyGiven None old new code = (code ≡ negsuc 1) × (new ≡ old)
 KeyGiven (Some version) old new code =
     (code ≡ pos (length (version_bytes version))) × (new ≡ written (version_bytes version) old)
 
--- a key is written so, and its length given; or nothing is
+-- a key's prefix that fits is written, and its length returned; or nothing is written
 abbrev pub IsWritten : List ℕ → List ℕ → List ℕ → ℤ → Type 0
 IsWritten key old new code =
     ((code ≡ negsuc 2) × (new ≡ old)) ⊎ ((code ≡ pos (length key)) × (new ≡ written key old))
 
--- what is answered with the key of a text's version; -3 stands for want of memory, which may come at any
--- time, and then nothing is written
+-- the result for the key of a text's version; -3 means that memory ran out, which may happen at any time, and
+-- then nothing is written
 abbrev pub IsKey : List ℕ → List ℕ → List ℕ → ℤ → Type 0
 IsKey bytes old new code =
     ((code ≡ negsuc 2) × (new ≡ old)) ⊎ KeyGiven (version_in bytes) old new code

@@ -1,4 +1,4 @@
-//! What the library for C answers on versions and specifiers (PEP 440), over bytes.
+//! The C library's calls on versions and specifiers (PEP 440), over bytes.
 #![tactic(auto)]
 
 pub mod laws;

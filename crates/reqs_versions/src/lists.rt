@@ -14,7 +14,11 @@ use reqs_reply::{Ended, Place, Reply, batch_lines, text_of};
 use std::alloc::{AllocError, Global};
 use std::fmt::Write;
 
-/// The list that the text of the argument of this number is, or how the call ends where it is none.
+/// The list of specifiers in an argument.
+///
+/// # Errors
+///
+/// How the call ends: refused at argument `input` for the first invalid specifier, or out of memory.
 pub(crate) fn read_list(alloc: Global, input: u32, bytes: &[u8]) -> Result<VersionSpecifiers, Ended>
     ensures list { IfOk result (λ list. IsListIn bytes.now list) }
     ensures none { IfErr result (λ ended. EndsIn NoAnswer (RefusesList input bytes.now) (ending_of ended)) }
@@ -31,17 +35,19 @@ pub(crate) fn read_list(alloc: Global, input: u32, bytes: &[u8]) -> Result<Versi
     }
 }
 
-/// Answers with the members of the list that a text is, one a line, by their versions. Another text is
-/// refused for its first piece between commas that is no specifier.
+/// Replies with the specifiers of a list, one per line, in the order of their versions. Linear in the text,
+/// except for sorting the specifiers.
 ///
-/// Linear in the text, but for bringing the members in order.
+/// # Errors
+///
+/// Refuses the first piece between commas that is not a specifier. Status 3 when memory runs out.
 pub fn specifiers(alloc: Global, bytes: &[u8], out: &mut [u8]) -> Reply
     ensures { RepliesAs (SpecifiersEnd bytes.now) out.old out.new result }
 {
     members(alloc, bytes).reply(out)
 }
 
-/// How the call ends that gives the members.
+/// The end of the call that replies with the specifiers.
 fn members(alloc: Global, bytes: &[u8]) -> Ended
     ensures { SpecifiersEnd bytes.now (ending_of result) }
 {
@@ -51,7 +57,7 @@ fn members(alloc: Global, bytes: &[u8]) -> Ended
     }
 }
 
-/// The members' texts, one a line.
+/// The texts of the specifiers, one per line.
 fn member_lines(alloc: Global, list: &VersionSpecifiers) -> Result<String, AllocError>
     ensures { IfOk result (λ text. string_bytes text ≡ as_lines (map specifier_text list.now)) }
 {
@@ -62,18 +68,22 @@ fn member_lines(alloc: Global, list: &VersionSpecifiers) -> Result<String, Alloc
     Ok(text)
 }
 
-/// Answers with a byte for each line of a text: `1` where the list that the first text is takes the version
-/// that the line is, `0` where it doesn't, and `?` where the line is no version. A pre-release is a version
-/// as any other.
+/// Replies with a byte for each line of `versions`: `1` if the list accepts the version on the line, `0` if
+/// it doesn't, and `?` if the line is not a version. Pre-releases are treated as any other version.
 ///
-/// Linear in the lines, of which each is compared with the list's members up to the first that refuses it.
+/// Linear in the lines, each of which is tested against the list's specifiers up to the first that rejects
+/// it.
+///
+/// # Errors
+///
+/// Refuses a list with a piece between commas that is not a specifier. Status 3 when memory runs out.
 pub fn specifiers_take(alloc: Global, bytes: &[u8], versions: &[u8], out: &mut [u8]) -> Reply
     ensures { RepliesAs (TakesEnd bytes.now versions.now) out.old out.new result }
 {
     taken(alloc, bytes, versions).reply(out)
 }
 
-/// How the call ends that says which versions are taken.
+/// The end of the call that replies which versions are accepted.
 fn taken(alloc: Global, bytes: &[u8], versions: &[u8]) -> Ended
     ensures { TakesEnd bytes.now versions.now (ending_of result) }
 {
@@ -87,7 +97,7 @@ fn taken(alloc: Global, bytes: &[u8], versions: &[u8]) -> Ended
     }
 }
 
-/// A mark for each line.
+/// The byte for each line.
 fn marks(alloc: Global, list: &VersionSpecifiers, versions: &[u8]) -> Result<Vec<u8>, AllocError>
     ensures { IfOk result (λ marks. marks.items
         ≡ map (λ line. taken_mark list.now (version_in line)) (batch_lines versions.now)) }
@@ -100,7 +110,7 @@ fn marks(alloc: Global, list: &VersionSpecifiers, versions: &[u8]) -> Result<Vec
     Ok(marks)
 }
 
-/// The mark of a line.
+/// The byte for a line.
 fn mark(alloc: Global, list: &VersionSpecifiers, line: &[u8]) -> Result<u8, AllocError>
     ensures { IfOk result (λ mark. mark ≡ taken_mark list.now (version_in line.now)) }
 {

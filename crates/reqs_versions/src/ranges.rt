@@ -17,8 +17,11 @@ use std::alloc::{AllocError, Global};
 use version_ranges::Ranges;
 use version_ranges::laws::every_set_is_normal;
 
-/// The range of the list that the text of the argument of this number is, or how the call ends where there is
-/// none.
+/// The range of the list of specifiers in an argument.
+///
+/// # Errors
+///
+/// How the call ends: refused at argument `input` if it is not a list or has no range, or out of memory.
 fn read_range(alloc: Global, input: u32, bytes: &[u8]) -> Result<Ranges<Version>, Ended>
     ensures range { IfOk result (λ set. IsRangeIn bytes.now (holds_at version_cmp set)) }
     ensures none { IfErr result (λ ended. EndsIn NoAnswer (RefusesRange input bytes.now) (ending_of ended)) }
@@ -31,7 +34,11 @@ fn read_range(alloc: Global, input: u32, bytes: &[u8]) -> Result<Ranges<Version>
     }
 }
 
-/// The ranges of two lists, the first argument and the second.
+/// The ranges of the lists in the first and the second argument.
+///
+/// # Errors
+///
+/// How the call ends: refused at the first argument that is not a list or has no range, or out of memory.
 fn read_ranges(
     alloc: Global,
     left: &[u8],
@@ -47,17 +54,19 @@ fn read_ranges(
     Ok((left, right))
 }
 
-/// Answers whether no point lies in the ranges of both lists, `1` or `0`. A text that is no list is refused,
-/// and so is a list that has no range.
+/// Replies with `1` if the ranges of two lists are disjoint, that is if no point is in both, otherwise with
+/// `0`. Linear in the texts; n specifiers need O(n log n) comparisons of versions.
 ///
-/// Linear in the texts; n specifiers take O(n log n) comparisons of versions.
+/// # Errors
+///
+/// Refuses a text that is not a list, and a list without a range. Status 3 when memory runs out.
 pub fn specifiers_disjoint(alloc: Global, left: &[u8], right: &[u8], out: &mut [u8]) -> Reply
     ensures { RepliesAs (RangesDisjointEnds left.now right.now) out.old out.new result }
 {
     disjoint_ranges(alloc, left, right).reply(out)
 }
 
-/// How the call ends that says whether two ranges share no point.
+/// The end of the call that replies whether two ranges are disjoint.
 fn disjoint_ranges(alloc: Global, left: &[u8], right: &[u8]) -> Ended
     ensures { RangesDisjointEnds left.now right.now (ending_of result) }
 {
@@ -67,7 +76,7 @@ fn disjoint_ranges(alloc: Global, left: &[u8], right: &[u8]) -> Ended
     }
 }
 
-/// Whether no point lies in both ranges.
+/// Whether no point is in both ranges.
 #[tactic(auto, using(crate::proofs::RangeAnswers::disjoint_by))]
 fn are_disjoint(
     alloc: Global,
@@ -82,17 +91,19 @@ fn are_disjoint(
     Ok(is_empty(&both))
 }
 
-/// Answers whether each point of the left list's range lies in that of the right list, `1` or `0`. A text
-/// that is no list is refused, and so is a list that has no range.
+/// Replies with `1` if each point of the left list's range is in that of the right list, otherwise with `0`.
+/// Linear in the texts; n specifiers need O(n log n) comparisons of versions.
 ///
-/// Linear in the texts; n specifiers take O(n log n) comparisons of versions.
+/// # Errors
+///
+/// Refuses a text that is not a list, and a list without a range. Status 3 when memory runs out.
 pub fn specifiers_subset(alloc: Global, left: &[u8], right: &[u8], out: &mut [u8]) -> Reply
     ensures { RepliesAs (SubsetEnds left.now right.now) out.old out.new result }
 {
     subset_of_range(alloc, left, right).reply(out)
 }
 
-/// How the call ends that says whether one range lies in another.
+/// The end of the call that replies whether one range is a subset of another.
 fn subset_of_range(alloc: Global, left: &[u8], right: &[u8]) -> Ended
     ensures { SubsetEnds left.now right.now (ending_of result) }
 {
@@ -102,7 +113,7 @@ fn subset_of_range(alloc: Global, left: &[u8], right: &[u8]) -> Ended
     }
 }
 
-/// Whether each point of the left range lies in the right one.
+/// Whether each point of the left range is in the right one.
 fn is_subset(
     alloc: Global,
     left: &Ranges<Version>,
@@ -117,17 +128,19 @@ fn is_subset(
     Ok(is_empty(&both))
 }
 
-/// Answers whether no point lies in the range of a list, `1` or `0`. A text that is no list is refused, and
-/// so is a list that has no range.
+/// Replies with `1` if the range of a list is empty, that is if no point is in it, otherwise with `0`. Linear
+/// in the text; n specifiers need O(n log n) comparisons of versions.
 ///
-/// Linear in the text; n specifiers take O(n log n) comparisons of versions.
+/// # Errors
+///
+/// Refuses a text that is not a list, and a list without a range. Status 3 when memory runs out.
 pub fn specifiers_empty(alloc: Global, bytes: &[u8], out: &mut [u8]) -> Reply
     ensures { RepliesAs (EmptyEnds bytes.now) out.old out.new result }
 {
     empty_range(alloc, bytes).reply(out)
 }
 
-/// How the call ends that says whether a range is empty.
+/// The end of the call that replies whether a range is empty.
 fn empty_range(alloc: Global, bytes: &[u8]) -> Ended
     ensures { EmptyEnds bytes.now (ending_of result) }
 {
@@ -137,7 +150,7 @@ fn empty_range(alloc: Global, bytes: &[u8]) -> Ended
     }
 }
 
-/// Whether no point lies in the range.
+/// Whether no point is in the range.
 #[tactic(auto, using(crate::proofs::RangeAnswers::empty_by))]
 fn is_empty(range: &Ranges<Version>) -> bool
     ensures { MatchBool result (IsEmpty (holds_at version_cmp range.now))
@@ -147,7 +160,7 @@ fn is_empty(range: &Ranges<Version>) -> bool
     range.is_empty()
 }
 
-/// The call ends with `1` or `0` by an answer, for which memory may have run out.
+/// The end of a call with `1` or `0`, or out of memory.
 fn whether(alloc: Global, answer: Result<bool, AllocError>) -> Ended
     ensures { EndsIn (λ text. IsOkAnd answer (λ b. text ≡ yes_or_no b)) NoRefusal (ending_of result) }
 {
@@ -157,7 +170,7 @@ fn whether(alloc: Global, answer: Result<bool, AllocError>) -> Ended
     }
 }
 
-/// The call ends with `1` or `0`, by this answer.
+/// The end of a call with `1` or `0`.
 fn mark(alloc: Global, answer: bool) -> Ended
     ensures { EndsIn (λ text. text ≡ yes_or_no answer) NoRefusal (ending_of result) }
 {

@@ -16,7 +16,7 @@ use std::alloc::{AllocError, Global};
 use std::cmp::Ordering;
 use std::str;
 
-/// The version of an argument's text, if that is the text of one.
+/// The version in an argument, or `None` if it isn't one.
 pub(crate) fn read_version(alloc: Global, bytes: &[u8]) -> Result<Option<Version>, AllocError>
     ensures { IfOk result (λ version. version ≡ version_in bytes.now) }
 {
@@ -37,17 +37,18 @@ fn version_of_text(alloc: Global, text: &str) -> Result<Option<Version>, AllocEr
     }
 }
 
-/// Answers with the normal text of the version that a text is (PEP 440, "Normalization"). Another text is
-/// refused for its first fault from the left.
+/// Replies with the normal text of a version (PEP 440, "Normalization"). Linear in the text.
 ///
-/// Linear in the text.
+/// # Errors
+///
+/// Refuses a text that is not a version, for its first fault from the left. Status 3 when memory runs out.
 pub fn version(alloc: Global, bytes: &[u8], out: &mut [u8]) -> Reply
     ensures { RepliesAs (VersionEnds bytes.now) out.old out.new result }
 {
     normal_text(alloc, bytes).reply(out)
 }
 
-/// How the call ends that gives the normal text.
+/// The end of the call that replies with the normal text.
 fn normal_text(alloc: Global, bytes: &[u8]) -> Ended
     ensures { VersionEnds bytes.now (ending_of result) }
 {
@@ -61,7 +62,7 @@ fn normal_text(alloc: Global, bytes: &[u8]) -> Ended
     }
 }
 
-/// How a call ends whose text is no version, or for which memory ran out.
+/// The end of a call whose text is not a version, or for which memory ran out.
 fn no_version(alloc: Global, bytes: &[u8], error: &VersionParseError) -> Ended
     requires is_text { is_utf8 bytes.now ≡ true }
     requires tells { Tells (told_version error.now) (version_reading bytes.now) }
@@ -73,8 +74,8 @@ fn no_version(alloc: Global, bytes: &[u8], error: &VersionParseError) -> Ended
     }
 }
 
-/// How the versions of two texts stand to each other (PEP 440, "Summary of permitted suffixes and relative
-/// ordering"): -1, 0 or 1; 2 where one of the texts is no version, and 3 where memory ran out.
+/// The order of the versions in two texts (PEP 440, "Summary of permitted suffixes and relative ordering"):
+/// -1, 0 or 1; 2 if one of the texts is not a version, and 3 when memory runs out.
 pub fn version_order(alloc: Global, left: &[u8], right: &[u8]) -> i32
     ensures { IsOrder left.now right.now result }
 {
@@ -97,9 +98,9 @@ fn order_of(left: &Option<Version>, right: &Option<Version>) -> i32
     }
 }
 
-/// Writes the key of a text's version, the front that fits: bytes in whose order versions stand, and which
-/// are the same exactly where versions are equal (PEP 440, "Summary of permitted suffixes and relative
-/// ordering"). Gives the key's length; -2 where the text is no version, and -3 where memory ran out.
+/// Writes the prefix that fits of the key of a text's version: bytes in whose order versions sort, and which
+/// are equal exactly if versions are equal (PEP 440, "Summary of permitted suffixes and relative ordering").
+/// Returns the key's length; -2 if the text is not a version, and -3 when memory runs out.
 pub fn version_key(alloc: Global, bytes: &[u8], out: &mut [u8]) -> i64
     ensures { IsKey bytes.now out.old out.new result }
 {
@@ -110,7 +111,7 @@ pub fn version_key(alloc: Global, bytes: &[u8], out: &mut [u8]) -> i64
     }
 }
 
-/// The key of a text's version, if the text is that of one.
+/// The key of the version in a text, or `None` if it isn't one.
 fn key_in(alloc: Global, bytes: &[u8]) -> Result<Option<Vec<u8>>, AllocError>
     ensures { IfOk result (λ key. option_map (λ k. k.items) key
         ≡ option_map version_bytes (version_in bytes.now)) }
@@ -121,7 +122,7 @@ fn key_in(alloc: Global, bytes: &[u8]) -> Result<Option<Vec<u8>>, AllocError>
     }
 }
 
-/// Writes of a key the front that fits, and gives its length.
+/// Writes the prefix of a key that fits, and returns its length.
 fn write_key(key: &[u8], out: &mut [u8]) -> i64
     ensures { IsWritten key.now out.old out.new result }
 {

@@ -1,4 +1,4 @@
-//! The laws of the crates below, by what they speak of.
+//! Laws of the crates that this one re-exports, by their subject.
 
 pub use pep508_cases::laws as marks;
 pub use reqtable_answer::laws as answers;

@@ -1,8 +1,8 @@
 #![tactic(auto)]
-//! Requirement lists and candidate lists: their judge, which says for an environment which packages are asked
-//! for, and the greatest candidate that each of them may have; and what lists say by themselves.
+//! Judges requirement lists against candidate lists: for an environment, which packages are required and the
+//! highest candidate that each may have. Also answers what lists mean on their own, without any environment.
 //!
-//! Lists are read once, and judged for as many environments as are wanted:
+//! Lists are read once, and judged for any number of environments:
 //!
 //! ```text
 //! let mut interner = Interner::new(alloc);
@@ -13,8 +13,15 @@
 //! let text = answer.text(alloc, &candidates)?;
 //! ```
 //!
-//! Without any environment a list has one normal text and the lines that contradict each other, and two lists
-//! of one interner require the same or not:
+//! Judging for a single environment needs no marker trees, which may be large:
+//!
+//! ```text
+//! let lines = MarkedLines::parse(alloc, requirements_text, &vars)?;
+//! let answer = lines.judge(alloc, &environment, &extras, &candidates, &admission)?;
+//! ```
+//!
+//! Without any environment, a list has one normal text and a list of the lines that contradict each other;
+//! and two lists of one interner can be compared:
 //!
 //! ```text
 //! let text = normal(alloc, &requirements, &interner)?;
@@ -29,8 +36,8 @@
 //! }
 //! ```
 //!
-//! For many environments a table is made of the requirements beforehand, which takes them. Its answers
-//! are those of the judge:
+//! For many environments a table is built from the requirements beforehand, which it consumes. Its answers
+//! equal those of `Requirements::judge`:
 //!
 //! ```text
 //! let mut table = Table::build(alloc, requirements, &mut interner, 4096)?;
@@ -41,15 +48,17 @@
 //! }
 //! ```
 //!
-//! The crates below hold the code; this one passes on what they offer, and requirements as `pep508_rs`.
+//! The crates below hold the code; this one re-exports what they offer, and the requirements of `pep508_rs`.
 
 pub mod laws;
 
 pub use pep508_rs;
-pub use reqtable_answer::{Admission, Answer, Ask, AskSource, Outcome, Row, answer_to, ask_of};
+pub use reqtable_answer::{
+    Admission, Answer, Ask, AskSource, Outcome, Row, answer_to, ask_of, ask_of_marked,
+};
 pub use reqtable_compare::{LineCause, Same, SameError, Side, same};
 pub use reqtable_conflicts::{Conflict, conflicts};
 pub use reqtable_normal::{NormalCause, NormalError, normal};
-pub use reqtable_requirements::{Line, Requirements, RequirementsError};
+pub use reqtable_requirements::{Line, MarkedLine, MarkedLines, Requirements, RequirementsError};
 pub use reqtable_table::{Case, Runs, Table, TableError};
 pub use reqtable_text::{Candidate, CandidateFault, Candidates, CandidatesError, Ordered, Placed};

@@ -1,5 +1,5 @@
--- The answer to what is asked of packages, by whole lists: which packages have a row, what stands in it, and
--- the rows' text.
+-- The answer to requirements on packages, defined over whole lists: which packages have a row, what the row
+-- has, and the rows' text.
 use Rattle.std.specs.Prelude.{◌≡◌, ℕ, not, List, [], ◌∷◌, ◌++◌, map, filter, find, codes}
 use Rattle.std.specs.Prelude.{Option, Some, None, option_map, if◌then◌else◌}
 use Rattle.std.specs.Option.{option_map_or}
@@ -19,13 +19,13 @@ use Rattle.reqtable_answer.specs.declared.answer.Outcome.TheVariants.{Taken, Not
 pub use Rattle.reqtable_answer.specs.Admission.{Admits}
 use Rattle.reqtable_answer.specs.Asks.{is_of, has_extra, has_url, is_candidate, may_be_taken}
 
--- ---- what becomes of a package
+-- ---- what is selected for a package
 
--- the first among the greatest, where there is one
+-- the first among the greatest elements, or none for an empty list
 abbrev pub first_greatest : {K : Type 0} → (K → K → Ordering) → List K → Option K
 first_greatest cmp xs = find (λ x. list_all (λ y. not (is_gt (cmp y x))) xs) xs
 
--- candidates with their places, in the order of their versions
+-- the order of candidates with their places, by their versions
 abbrev pub by_version : ℕ × Candidate → ℕ × Candidate → Ordering
 by_version a b = version_cmp a.1.version b.1.version
 
@@ -33,8 +33,8 @@ abbrev pub chosen : Option ℕ → Outcome
 chosen None = Nothing
 chosen (Some place) = Taken place
 
--- what becomes of a package for what is asked of it, and for its candidates: the first among the greatest of
--- those that may be taken
+-- the outcome of a package for the requirements on it and its candidates: the first among the highest
+-- candidates that are accepted
 abbrev pub outcome_of : Admits → List Front → List (ℕ × Candidate) → Outcome
 outcome_of admits asks candidates =
     if list_any has_url asks then Direct
@@ -43,28 +43,28 @@ outcome_of admits asks candidates =
 
 -- ---- rows
 
--- a package, the extras that are asked for, and what becomes of it
+-- a package, the extras that are required, and its outcome
 pub record RowRecord : Type 0 where
   pub name : List ℕ
   pub extras : List (List ℕ)
   pub outcome : Outcome
 
--- the row of a package, by what is asked of it and by its candidates: the extras that any of the asks has,
--- each once and in the order of their bytes
+-- a row is that of a package with these requirements and candidates: its extras are those that any of the
+-- requirements has, each once and in the order of their bytes
 pub record IsRowOf (admits : Admits) (asks : List Front) (candidates : List (ℕ × Candidate))
     (row : RowRecord) : Type 0 where
   pub extras_rise : IsStrictlySortedBy (slice_cmp nat_cmp) row.extras
   pub extras_are : (extra : List ℕ) → list_any (bytes_eq extra) row.extras ≡ list_any (has_extra extra) asks
   pub outcome : row.outcome ≡ outcome_of admits asks candidates
 
--- the same, by those of all asks and candidates that are of the package, with the candidates' places in
--- the list
+-- a row is that of its package, by those of all requirements and candidates that are of the package, with the
+-- candidates' places in the list
 abbrev pub IsRow : Admits → List Front → List Candidate → RowRecord → Type 0
 IsRow admits asks candidates row =
     IsRowOf admits (filter (is_of row.name) asks)
     (filter (is_candidate row.name) (enumerate_from 0 candidates)) row
 
--- the rows of an answer: one for each package that is asked for, in the order of their names' bytes
+-- rows are the answer: one for each required package, in the order of the bytes of their names
 pub record IsAnswer (admits : Admits) (asks : List Front) (candidates : List Candidate)
     (rows : List RowRecord) : Type 0 where
   pub rising : IsStrictlySortedBy (slice_cmp nat_cmp) (map (λ row. row.name) rows)
@@ -74,14 +74,14 @@ pub record IsAnswer (admits : Admits) (asks : List Front) (candidates : List Can
 
 -- ---- text
 
--- what follows a package's name and extras
+-- what follows a package's name and extras in its line
 abbrev pub outcome_text : List Candidate → Outcome → List ℕ
 outcome_text candidates (Taken place) =
     option_map_or (λ c. version_text c.version) (slice_get candidates place) []
 outcome_text candidates Nothing = codes "none"
 outcome_text candidates Direct = codes "direct"
 
--- the extras between brackets, where there are any
+-- extras in brackets, or nothing without extras
 abbrev pub extras_text : List (List ℕ) → List ℕ
 extras_text [] = []
 extras_text (extra ∷ extras) = codes "[" ++ (join_with_byte 44 (extra ∷ extras) ++ codes "]")
@@ -93,7 +93,7 @@ row_text candidates row =
 abbrev pub answer_text : List Candidate → List RowRecord → List ℕ
 answer_text candidates rows = flat_map (row_text candidates) rows
 
--- the text of the answer
+-- a text is that of the answer
 abbrev pub IsAnswerText : Admits → List Front → List Candidate → List ℕ → Type 0
 IsAnswerText admits asks candidates text =
     (rows : List RowRecord) × IsAnswer admits asks candidates rows × (text ≡ answer_text candidates rows)

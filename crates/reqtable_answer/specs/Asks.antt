@@ -1,5 +1,5 @@
--- What is asked of a package: requirements without their markers (PEP 508, "Grammar"). Which ones are asked,
--- an environment says.
+-- What is required of packages: requirements without their markers (PEP 508, "Grammar"). The environment
+-- decides which requirements apply.
 use Rattle.std.specs.Prelude.{◌&&◌, ℕ, Bool, true, false, List, []}
 use Rattle.std.specs.List.{list_any, list_all}
 use Rattle.std.specs.Str.{bytes_eq}
@@ -11,7 +11,7 @@ use Rattle.pep508_requirement_text.specs.FrontReading.Source.{Any, Specifiers, U
 use Rattle.reqtable_text.specs.declared.candidates.Candidate.{Candidate}
 use Rattle.reqtable_answer.specs.Admission.{Admits}
 
--- the specifiers that an ask has; one of a URL has none
+-- the specifiers of a requirement; one with a URL has none
 abbrev pub specifiers_of : Source → List SpecifierRecord
 specifiers_of Any = []
 specifiers_of (Specifiers given) = given
@@ -22,35 +22,35 @@ is_url Any = false
 is_url (Specifiers given) = false
 is_url (Url text) = true
 
--- the ask is of the package
+-- the requirement is on the package
 abbrev pub is_of : List ℕ → Front → Bool
 is_of name ask = bytes_eq name ask.name
 
--- the ask has the extra
+-- the requirement has the extra
 abbrev pub has_extra : List ℕ → Front → Bool
 has_extra extra ask = list_any (bytes_eq extra) ask.extras
 
--- the ask is of a URL
+-- the requirement has a URL
 abbrev pub has_url : Front → Bool
 has_url ask = is_url ask.source
 
--- all specifiers of the ask take the version (PEP 440, "Version specifiers")
+-- all specifiers of the requirement accept the version (PEP 440, "Version specifiers")
 abbrev pub ask_takes : VersionRecord → Front → Bool
 ask_takes version ask = matches_all (specifiers_of ask.source) version
 
--- some specifier of the ask has a pre-release or a developmental release
+-- some specifier of the requirement names a pre-release or a developmental release
 abbrev pub has_prerelease : Front → Bool
 has_prerelease ask = any_prerelease (specifiers_of ask.source)
 
--- some specifier of the asks has
+-- some specifier of the requirements names a pre-release or a developmental release
 abbrev pub names_prerelease : List Front → Bool
 names_prerelease asks = list_any has_prerelease asks
 
--- a candidate with its place is of the package
+-- a candidate with its place is one of the package
 abbrev pub is_candidate : List ℕ → ℕ × Candidate → Bool
 is_candidate name numbered = bytes_eq name numbered.1.name
 
--- all asks take the candidate, and it is admitted
+-- all requirements accept the candidate, and it is admitted
 abbrev pub may_be_taken : Admits → List Front → ℕ × Candidate → Bool
 may_be_taken admits asks numbered =
     list_all (ask_takes numbered.1.version) asks && admits numbered.1.version (names_prerelease asks)

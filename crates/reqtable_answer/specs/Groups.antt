@@ -1,4 +1,4 @@
--- What is asked, and candidates with their places, by the package that each is of.
+-- Requirements, and candidates with their places, grouped by package.
 use Rattle.std.specs.Prelude.{ℕ, ◌&&◌, Bool, true, List, [], map, Option, Some, None, is_some}
 use Rattle.std.specs.Prelude.{if◌then◌else◌}
 use Rattle.std.specs.List.{list_all}
@@ -17,7 +17,7 @@ use Rattle.reqtable_answer.specs.Admission.{Admits}
 use Rattle.reqtable_answer.specs.Asks.{ask_takes}
 use Rattle.reqtable_answer.specs.Says.{ask_seen, asks_seen}
 
--- the group of a name, where it has one
+-- the group of a name, if it has one
 abbrev pub group_of : {X : Type 0} → BTreeMap (Bor (List ℕ)) X → List ℕ → Option X
 group_of groups name = get_by (λ k. slice_cmp nat_cmp name k.now) groups
 
@@ -34,16 +34,16 @@ abbrev pub candidates_for : BTreeMap (Bor (List ℕ)) Group → List ℕ → Lis
 candidates_for groups name =
     option_map_or (λ g. map numbered_seen g.candidates.items) (group_of groups name) []
 
--- whether a value lies above another, if there is one
+-- a value is greater than another, or there is no other
 abbrev pub exceeds : {K : Type 0} → (K → K → Ordering) → K → Option K → Bool
 exceeds cmp x None = true
 exceeds cmp x (Some y) = is_gt (cmp x y)
 
--- the value where it lies above the one before it and passes the test, else the one before it
+-- the value if it is greater than the best one before it and passes the test, otherwise the one before it
 abbrev pub better_of : {K : Type 0} → (K → K → Ordering) → (K → Bool) → K → Option K → Option K
 better_of cmp test x best = if exceeds cmp x best && test x then Some x else best
 
--- the test of candidates by these asks, with what is said of their pre-releases
+-- candidates pass if the requirements accept them and they are admitted, with this flag for pre-releases
 abbrev pub passes_by : Admits → List Ask → Bool → ℕ × Candidate → Bool
 passes_by admits asks prerelease c =
     list_all (λ ask. ask_takes c.1.version (ask_seen ask)) asks && admits c.1.version prerelease

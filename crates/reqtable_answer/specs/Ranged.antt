@@ -1,4 +1,4 @@
--- The range of what is asked of a package.
+-- The range of the requirements on a package.
 use Rattle.std.specs.Prelude.{◌≡◌, List, Option, Some, None}
 use Rattle.std.specs.List.{list_all}
 use Rattle.pep440_version.specs.Record.{VersionRecord}
@@ -10,7 +10,7 @@ use Rattle.reqtable_answer.specs.declared.lent.Ask.{Ask}
 use Rattle.reqtable_answer.specs.Asks.{ask_takes}
 use Rattle.reqtable_answer.specs.Says.{ask_seen}
 
--- a range, where there is one, is that of lists which take together what the asks do
+-- a range, if there is one, is that of lists that accept together what the requirements do
 abbrev pub TellsTaken : List Ask → Option OneRange → Type 0
 TellsTaken asks None = Unit {0}
 TellsTaken asks (Some one) =

@@ -1,4 +1,4 @@
--- What asks that are lent say, and requirements.
+-- The records of borrowed requirements, and what they represent.
 use Rattle.std.specs.Prelude.{◌≡◌, List, [], map, Option, Some, None}
 use Rattle.std.specs.List.{AllZip}
 use Rattle.pep440_specifier_list.specs.Lists.{IsInOrder}
@@ -6,6 +6,7 @@ use Rattle.pep508_url.specs.UrlTexts.{Verbatim}
 use Rattle.pep508_url.specs.declared.error.VerbatimUrlError.{VerbatimUrlError}
 use Rattle.pep508_requirement_text.specs.FrontReading.{Source, Front}
 use Rattle.pep508_requirement_text.specs.FrontReading.Source.{Any, Specifiers, Url}
+use Rattle.pep508_requirement.specs.declared.marked.MarkedRequirement.{MarkedRequirement}
 use Rattle.pep508_requirement.specs.declared.requirement.Requirement.{Requirement}
 use Rattle.pep508_requirement.specs.declared.version_or_url.VersionOrUrl.{VersionOrUrl}
 use Rattle.pep508_requirement.specs.declared.version_or_url.VersionOrUrl.TheVariants as asked
@@ -13,9 +14,9 @@ use Rattle.reqtable_answer.specs.declared.lent.Ask.{Ask}
 use Rattle.reqtable_answer.specs.declared.lent.AskSource.{AskSource}
 use Rattle.reqtable_answer.specs.declared.lent.AskSource.TheVariants as lent
 
--- ---- what is seen of them
+-- ---- records of values
 
--- what is asked for, its specifiers by version, and no word on which URL
+-- what is required, with the specifiers in the order of their versions, and without the URL's text
 abbrev pub source_seen : AskSource → Source
 source_seen lent.Any = Any
 source_seen (lent.Specifiers list) = Specifiers list.now
@@ -31,7 +32,7 @@ asks_seen = map ask_seen
 abbrev pub Asked : Type 0
 Asked = Requirement Verbatim VerbatimUrlError
 
--- the same of a requirement
+-- the record of a requirement's specifiers or URL, without the URL's text
 abbrev pub wanted_seen : Option (VersionOrUrl Verbatim VerbatimUrlError) → Source
 wanted_seen None = Any
 wanted_seen (Some (asked.VersionSpecifier list)) = Specifiers list
@@ -44,9 +45,17 @@ requirement_seen requirement = record {
   source = wanted_seen requirement.version_or_url;
 }
 
--- ---- what they say
+-- the record of a requirement whose marker is a formula
+abbrev pub marked_seen : MarkedRequirement Verbatim VerbatimUrlError → Front
+marked_seen requirement = record {
+  name = requirement.name;
+  extras = requirement.extras.items;
+  source = wanted_seen requirement.version_or_url;
+}
 
--- specifiers by version say the given ones, and any URL says a URL
+-- ---- what they represent
+
+-- specifiers in the order of their versions represent the given ones, and any URL represents a URL
 abbrev pub SaysSource : Source → Source → Type 0
 SaysSource Any Any = Unit {0}
 SaysSource Any said = ⊥
@@ -55,12 +64,12 @@ SaysSource (Specifiers list) said = ⊥
 SaysSource (Url shown) (Url text) = Unit {0}
 SaysSource (Url shown) said = ⊥
 
--- what is seen of an ask says what the record does
+-- the record of a requirement represents another record
 pub record Says (shown said : Front) : Type 0 where
   pub name : shown.name ≡ said.name
   pub extras : shown.extras ≡ said.extras
   pub source : SaysSource shown.source said.source
 
--- each of them does
+-- the records of all requirements represent these, one by one
 abbrev pub SayAll : List Ask → List Front → Type 0
 SayAll asks said = AllZip Says (asks_seen asks) said

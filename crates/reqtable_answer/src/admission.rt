@@ -1,4 +1,8 @@
-//! Which candidates an answer may take, beside what the asks say.
+//! The admission test: which candidates an answer may select, in addition to what the requirements accept.
+//!
+//! What a test admits (`Admits`) is quantified over in each contract, since a struct cannot keep what is
+//! known of its closure. `new` requires that the closure may always be called and answers by the version's
+//! record; `admits` and `answer_to` require the first again.
 
 ghost use Rattle.std.specs.Prelude.{◌≡◌};
 ghost use Rattle.reqtable_answer.specs.Admission.{Admits, AnswersBy, IsLawful};
@@ -6,10 +10,10 @@ ghost use Rattle.reqtable_answer.specs.Admission.{Admits, AnswersBy, IsLawful};
 use pep440_version::Version;
 use std::marker::Model;
 
-/// A test of candidates' versions.
+/// A test of candidates' versions, applied in addition to the specifiers.
 ///
-/// It is asked of a version, and of whether a specifier of those that ask for the package has a
-/// pre-release or developmental release.
+/// Its arguments are a version, and whether one of the specifiers on its package names a pre-release or
+/// developmental release.
 #[derive(Drop)]
 pub struct Admission<F> {
     test: F,
@@ -22,8 +26,8 @@ impl<F> Model for Admission<F> {
 }
 
 impl<F: Fn(&Version, bool) -> bool> Admission<F> {
-    /// The admission of the versions for which the closure answers `true`. It answers alike for versions of
-    /// the same record.
+    /// Admits the versions for which the closure returns `true`. The closure must give equal answers for
+    /// versions with the same record.
     pub fn new(test: F) -> Self
         requires callable { F.IsAlwaysCallable test }
         requires lawful { IsLawful (F.post test) }
@@ -32,7 +36,7 @@ impl<F: Fn(&Version, bool) -> bool> Admission<F> {
         Admission { test }
     }
 
-    /// Whether the version may be taken. Calls the closure once, and takes no memory of its own.
+    /// Whether the version may be selected. Calls the closure once, and allocates no memory of its own.
     pub fn admits(&self, version: &Version, names_prerelease: bool) -> bool
         requires { F.IsAlwaysCallable self.now }
         ensures { (admits : Admits) → AnswersBy (F.post self.now) admits →

@@ -1,4 +1,9 @@
-//! The answer to what is asked of packages, and its text.
+//! The answer to requirements on packages, and its text.
+//!
+//! A row owns its name and extras and names the candidate by its index in the given list: equal versions
+//! are told apart, an answer borrows nothing, and a table can return the same rows. A candidate is printed
+//! by its version's print and not as it was written: `01.0` prints `1.0`, and zeros at a release's end
+//! stay.
 
 ghost use Rattle.std.specs.List.{flat_map, join_with_byte};
 ghost use Rattle.std.specs.Prelude.{◌≡◌, ◌∷◌, ◌++◌, All, map, length, codes, IfOk, OnOk, string_bytes};
@@ -10,28 +15,32 @@ use reqtable_text::{Candidate, Candidates};
 use std::alloc::{AllocError, Global};
 use std::fmt::Write;
 
-/// What becomes of a package.
+/// What is selected for a package.
 #[derive(Clone, Copy, Debug, PartialEq, Eq)]
 pub enum Outcome {
-    /// The candidate at this place is taken.
+    /// The candidate at this index of the candidate list is selected.
     Taken(usize),
-    /// No candidate may be taken.
+    /// No candidate can be selected.
     Nothing,
-    /// The package is asked for by a URL, so no candidate is looked for.
+    /// The package is required by a URL, so no candidate is looked for.
     Direct,
 }
 
-/// A package that is asked for.
+/// A required package, with the candidate selected for it.
 #[derive(Debug, PartialEq, Eq, Drop)]
 pub struct Row {
     pub package: PackageName,
-    /// The extras that are asked for, each once and in the order of their bytes.
+    /// The extras that are required, each once and in the order of their bytes.
     pub extras: Vec<ExtraName>,
     pub outcome: Outcome,
 }
 
 impl Row {
-    /// A copy, in memory of its own. Linear in the extras.
+    /// A deep copy of the row. Linear in the extras.
+    ///
+    /// # Errors
+    ///
+    /// `AllocError` when memory runs out.
     pub fn try_clone(&self, alloc: Global) -> Result<Row, AllocError>
         ensures { IfOk result (λ copy. row_seen copy ≡ row_seen self.now) }
     {
@@ -53,14 +62,18 @@ fn copies(alloc: Global, names: &[ExtraName]) -> Result<Vec<ExtraName>, AllocErr
     Ok(copies)
 }
 
-/// A row for each package that is asked for, in the order of their names' bytes.
+/// A row for each required package, in the order of the bytes of their names.
 #[derive(Debug, PartialEq, Eq, Drop)]
 pub struct Answer {
     pub rows: Vec<Row>,
 }
 
 impl Answer {
-    /// A copy, in memory of its own. Linear in the rows and their extras.
+    /// A deep copy of the answer. Linear in the rows and their extras.
+    ///
+    /// # Errors
+    ///
+    /// `AllocError` when memory runs out.
     pub fn try_clone(&self, alloc: Global) -> Result<Answer, AllocError>
         ensures { IfOk result (λ copy.
             map row_seen copy.rows.items ≡ map row_seen self.now.rows.items) }
@@ -72,10 +85,14 @@ impl Answer {
         Ok(Answer { rows })
     }
 
-    /// The rows as lines: a package's name, its extras in brackets with bare commas between them, where it
-    /// has any, a blank, and the version that is taken, `none` or `direct`.
+    /// The rows as lines of text. A line has the package's name, its extras, if any, in brackets and with
+    /// commas but no blanks between them, a blank, and the selected version, `none` or `direct`.
     ///
-    /// The candidates are those among which was chosen. Linear in the text.
+    /// `candidates` is the list from which the answer was selected. Linear in the text.
+    ///
+    /// # Errors
+    ///
+    /// `AllocError` when memory runs out.
     pub fn text(&self, alloc: Global, candidates: &Candidates) -> Result<String, AllocError>
         requires { All (λ row. IsTakenBelow (length candidates.now) row.outcome) self.now.rows.items }
         ensures { IfOk result (λ text.
@@ -90,7 +107,7 @@ impl Answer {
     }
 }
 
-/// Adds a row's line to a text.
+/// Appends a row's line to a text.
 fn push_row(text: &mut String, row: &Row, candidates: &[Candidate]) -> Result<(), AllocError>
     requires { IsTakenBelow (length candidates.now) row.now.outcome }
     ensures { OnOk result
@@ -101,7 +118,7 @@ fn push_row(text: &mut String, row: &Row, candidates: &[Candidate]) -> Result<()
     push_outcome(text, row.outcome, candidates)
 }
 
-/// Adds extras in brackets, or nothing where there are none.
+/// Appends extras in brackets, or nothing if there are none.
 fn push_extras(text: &mut String, extras: &[ExtraName]) -> Result<(), AllocError>
     ensures { OnOk result (string_bytes text.new ≡ string_bytes text.old ++ extras_text extras.now) }
 {
@@ -111,7 +128,7 @@ fn push_extras(text: &mut String, extras: &[ExtraName]) -> Result<(), AllocError
     }
 }
 
-/// Adds a first extra and others, in brackets.
+/// Appends a first extra and the others, in brackets.
 fn push_bracketed(
     text: &mut String,
     first: &ExtraName,
@@ -127,7 +144,7 @@ fn push_bracketed(
     Ok(())
 }
 
-/// Adds each extra behind a comma.
+/// Appends each extra after a comma.
 fn push_others(text: &mut String, extras: &[ExtraName]) -> Result<(), AllocError>
     ensures { OnOk result
         (string_bytes text.new ≡ string_bytes text.old ++ flat_map (λ extra. 44 ∷ extra) extras.now) }
@@ -139,7 +156,7 @@ fn push_others(text: &mut String, extras: &[ExtraName]) -> Result<(), AllocError
     Ok(())
 }
 
-/// Adds a blank, what is taken, and the end of the line.
+/// Appends a blank, the outcome, and the end of the line.
 fn push_outcome(
     text: &mut String,
     outcome: Outcome,

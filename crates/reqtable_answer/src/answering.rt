@@ -1,5 +1,9 @@
-//! The answer: what is asked and the candidates are put by package once, and each package is decided by its
-//! own alone.
+//! The answer: requirements and candidates are grouped by package once, and each package is decided by its
+//! own requirements and candidates alone.
+//!
+//! The answer is defined over whole lists (`Answer.antt`), so that a reader needs no map; a package's row
+//! (`IsRow`) is that of the asks and candidates of its name (`IsRowOf`). The code goes by groups
+//! (`Groups.antt`), and `proofs/ByPackage.antt` shows that these agree.
 
 ghost use Rattle.std.specs.Prelude.{◌≡◌, ℕ, true, ◌<◌, List, All, map, length, IfOk};
 ghost use Rattle.std.specs.List.{list_all};
@@ -21,22 +25,27 @@ use pep440_version::Version;
 use reqtable_text::Candidates;
 use std::alloc::{AllocError, Global};
 
-/// The answer to these asks: a row for each package that one of them is of.
+/// The answer to these requirements: a row for each package that one of them names.
 ///
-/// A package is `Direct` where one of its asks is of a URL. Else the greatest candidate of its name is taken
-/// that all specifiers of its asks take (PEP 440, "Version specifiers") and that is admitted, the first in
-/// the list among equals. The admission is told whether one of the specifiers has a pre-release or
-/// developmental release.
+/// A package is `Direct` if one of its requirements has a URL. Otherwise the highest candidate of its name is
+/// selected that all specifiers of its requirements accept (PEP 440, "Version specifiers") and that is
+/// admitted, the first in the list among equals. The admission is passed whether one of the specifiers names
+/// a pre-release or developmental release. The order of `asks` doesn't matter.
 ///
-/// With A asks, C candidates and P packages that are O((A + C) log P) comparisons of names. Candidates of
-/// other packages are left out, and one is tested, against its own package's asks, where it lies above the
-/// best before it. The order of the asks doesn't count.
+/// With A requirements, C candidates and P packages that are O((A + C) log P) comparisons of names.
+/// Candidates of other packages are left out, and a candidate is tested, against its own package's
+/// requirements, only if it is higher than the best one before it.
 ///
 /// With n specifiers and m candidates of a package that are O((n + m) log n) comparisons of versions, or n
-/// times m where that is at most 1,024. Beside these each candidate that is tested is asked of each specifier
-/// of which no range tells: a `===`, `<` or `>` beside a post-release, one that would need a number past 64
-/// bits; and where the candidate has a local part or a post-release, also one with a local part, or with a
-/// pre- or developmental release beside `>`. So m times n is reached only where most specifiers are such.
+/// times m where that is at most 1,024. In addition each tested candidate is matched against each specifier
+/// that no range decides: a `===`, a `<` or `>` with a post-release, one whose range would need a number past
+/// 64 bits; and if the candidate has a local part or is a post-release, also a specifier with a local part,
+/// and a `>` with a pre-release or developmental release. So m times n is reached only where most specifiers
+/// are of these kinds.
+///
+/// # Errors
+///
+/// `AllocError` when memory runs out.
 pub fn answer_to<F: Fn(&Version, bool) -> bool>(
     alloc: Global,
     asks: &[Ask<'_>],
@@ -60,7 +69,7 @@ pub fn answer_to<F: Fn(&Version, bool) -> bool>(
     Ok(Answer { rows })
 }
 
-/// The row of the package that all these are of.
+/// The row of the package that all these requirements and candidates are of.
 fn row_of<F: Fn(&Version, bool) -> bool>(
     alloc: Global,
     asks: &[Ask<'_>],

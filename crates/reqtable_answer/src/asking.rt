@@ -1,4 +1,4 @@
-//! What is asked of a version, by all that asks for its package.
+//! What the requirements on a package accept together.
 
 ghost use Rattle.std.specs.Prelude.{◌≡◌, ◌&&◌, IfOk};
 ghost use Rattle.std.specs.List.{list_any, list_all};
@@ -13,7 +13,7 @@ use pep440_version::Version;
 use reqtable_range::OneRange;
 use std::alloc::{AllocError, Global};
 
-/// Whether some ask is of a URL.
+/// Whether some requirement has a URL.
 pub fn is_direct(asks: &[Ask<'_>]) -> bool
     ensures { result ≡ list_any (λ ask. has_url (ask_seen ask)) asks.now }
 {
@@ -29,7 +29,7 @@ fn has_url(ask: &Ask<'_>) -> bool
     }
 }
 
-/// Whether some specifier has a pre-release or developmental release.
+/// Whether some specifier names a pre-release or developmental release.
 pub fn names_prerelease(asks: &[Ask<'_>]) -> bool
     ensures { result ≡ list_any (λ ask. has_prerelease (ask_seen ask)) asks.now }
 {
@@ -45,7 +45,7 @@ fn has_prerelease(ask: &Ask<'_>) -> bool
     }
 }
 
-/// Whether all asks take the version, and it is admitted.
+/// Whether all requirements accept the version, and it is admitted.
 pub fn may_be_taken<F: Fn(&Version, bool) -> bool>(
     alloc: Global,
     asks: &[Ask<'_>],
@@ -64,7 +64,7 @@ pub fn may_be_taken<F: Fn(&Version, bool) -> bool>(
     Ok(taken && admission.admits(version, names_prerelease))
 }
 
-/// Whether all asks take the version: by their range, where that tells it.
+/// Whether all requirements accept the version: decided by their range, where that decides it.
 fn all_take(
     alloc: Global,
     asks: &[Ask<'_>],
@@ -83,7 +83,7 @@ fn all_take(
     takes_all(alloc, asks, version)
 }
 
-/// Whether all asks take the version: each is asked.
+/// Whether all requirements accept the version: each is tested, up to the first that doesn't.
 fn takes_all(alloc: Global, asks: &[Ask<'_>], version: &Version) -> Result<bool, AllocError>
     ensures { IfOk result (λ taken.
         taken ≡ list_all (λ ask. ask_takes version.now (ask_seen ask)) asks.now) }

@@ -1,4 +1,7 @@
-//! What becomes of a package: the first among the greatest of its candidates that may be taken.
+//! What is selected for a package: the first among the highest of its acceptable candidates.
+//!
+//! Candidates are tested from the list's front, each only if it is above the best so far; so the first
+//! among equals is found without sorting.
 
 ghost use Rattle.std.specs.Prelude.{◌≡◌, ℕ, ◌<◌, All, map, filter, option_map, IfOk, IfSome};
 ghost use Rattle.reqtable_answer.specs.Admission.{Admits, AnswersBy};
@@ -19,14 +22,14 @@ use reqtable_range::OneRange;
 use reqtable_text::Candidate;
 use std::alloc::{AllocError, Global};
 
-/// A candidate, and its place in the list.
+/// A candidate with its index in the candidate list.
 #[derive(Clone, Copy)]
 pub struct Numbered<'a> {
     pub place: usize,
     pub candidate: &'a Candidate,
 }
 
-/// What becomes of a package, for what is asked of it and for its candidates.
+/// What is selected for a package, by the requirements on it and from its candidates.
 pub fn outcome<F: Fn(&Version, bool) -> bool>(
     alloc: Global,
     asks: &[Ask<'_>],
@@ -48,7 +51,7 @@ pub fn outcome<F: Fn(&Version, bool) -> bool>(
     }
 }
 
-/// The first among the greatest candidates that may be taken.
+/// The first among the highest candidates that are accepted and admitted.
 fn greatest<'a, F: Fn(&Version, bool) -> bool>(
     alloc: Global,
     asks: &[Ask<'_>],
@@ -66,8 +69,8 @@ fn greatest<'a, F: Fn(&Version, bool) -> bool>(
     greatest_by(alloc, asks, &range, candidates, admission)
 }
 
-/// The same by the range of what is asked, where there is one. A candidate is tested only where it lies above
-/// the best before it.
+/// The first among the highest candidates that are accepted and admitted, decided by the range of the
+/// requirements where there is one. A candidate is tested only if it is higher than the best one before it.
 fn greatest_by<'a, F: Fn(&Version, bool) -> bool>(
     alloc: Global,
     asks: &[Ask<'_>],
@@ -91,7 +94,8 @@ fn greatest_by<'a, F: Fn(&Version, bool) -> bool>(
     Ok(best)
 }
 
-/// The candidate where it lies above the best before it and may be taken, else the best before it.
+/// The candidate if it is higher than the best one before it and may be selected, otherwise the best one
+/// before it.
 fn better<'a, F: Fn(&Version, bool) -> bool>(
     alloc: Global,
     asks: &[Ask<'_>],
@@ -121,7 +125,7 @@ fn better<'a, F: Fn(&Version, bool) -> bool>(
     }
 }
 
-/// Whether the candidate lies above the best before it.
+/// Whether the candidate is higher than the best one before it.
 fn is_greater(candidate: &Numbered<'_>, best: Option<Numbered<'_>>) -> bool
     ensures { result ≡
         exceeds by_version (numbered_seen candidate.now) (option_map numbered_seen best.entry) }

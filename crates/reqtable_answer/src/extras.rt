@@ -1,4 +1,4 @@
-//! The extras that are asked for of a package.
+//! The extras that are required of a package.
 
 ghost use Rattle.std.specs.Prelude.{◌≡◌, ℕ, List, ◌++◌, map, IfOk, OnOk};
 ghost use Rattle.std.specs.List.{list_any, flat_map};
@@ -13,7 +13,7 @@ use crate::lent::Ask;
 use pep508_name::ExtraName;
 use std::alloc::{AllocError, Global};
 
-/// The extras that any of these asks for, each once and in the order of their bytes.
+/// The extras that any of these requirements names, each once and in the order of their bytes.
 pub fn extras_of(alloc: Global, asks: &[Ask<'_>]) -> Result<Vec<ExtraName>, AllocError>
     ensures rise { IfOk result (λ extras. IsStrictlySortedBy (slice_cmp nat_cmp) extras.items) }
     ensures are { IfOk result (λ extras. (extra : List ℕ) →
@@ -23,7 +23,7 @@ pub fn extras_of(alloc: Global, asks: &[Ask<'_>]) -> Result<Vec<ExtraName>, Allo
     united_extras(alloc, &lists)
 }
 
-/// Their lists of extras.
+/// The list of extras of each requirement.
 fn lists_of<'a>(alloc: Global, asks: &[Ask<'a>]) -> Result<Vec<&'a [ExtraName]>, AllocError>
     ensures { IfOk result (λ lists.
         map (λ list. list.now) lists.items ≡ map (λ ask. ask.extras) (asks_seen asks.now)) }
@@ -35,10 +35,14 @@ fn lists_of<'a>(alloc: Global, asks: &[Ask<'a>]) -> Result<Vec<&'a [ExtraName]>,
     Ok(lists)
 }
 
-/// The extras that stand in any of these lists, each once and in the order of their bytes.
+/// The extras in any of these lists, each once and in the order of their bytes.
 ///
-/// With n extras, counted as often as they stand there, that are O(n log n) comparisons of names, and memory
-/// for n places beside the copies that are given.
+/// With n extras, repetitions included, that are O(n log n) comparisons of names, and memory for n references
+/// in addition to the copies that are returned.
+///
+/// # Errors
+///
+/// `AllocError` when memory runs out.
 pub fn united_extras(alloc: Global, lists: &[&[ExtraName]]) -> Result<Vec<ExtraName>, AllocError>
     ensures rise { IfOk result (λ extras. IsStrictlySortedBy (slice_cmp nat_cmp) extras.items) }
     ensures are { IfOk result (λ extras. (extra : List ℕ) →
@@ -51,7 +55,7 @@ pub fn united_extras(alloc: Global, lists: &[&[ExtraName]]) -> Result<Vec<ExtraN
     copies(alloc, &lent)
 }
 
-/// All their extras, list by list.
+/// References to all extras, list by list.
 fn lent_extras<'a>(
     alloc: Global,
     lists: &[&'a [ExtraName]],

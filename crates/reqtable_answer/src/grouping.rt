@@ -1,4 +1,6 @@
-//! What is asked and the candidates, put by package: each name is looked up once.
+//! Requirements and candidates, grouped by package: each name is looked up once.
+//!
+//! Candidates are grouped only under packages that are asked for, in one pass.
 
 ghost use Rattle.std.specs.Prelude.{◌≡◌, ℕ, ◌&&◌, ◌||◌, List, [], ◌∷◌, ◌++◌, filter, IfOk, OnOk};
 ghost use Rattle.std.specs.List.{list_any, enumerate_from};
@@ -12,7 +14,7 @@ use reqtable_text::Candidate;
 use std::alloc::{AllocError, Global};
 use std::collections::BTreeMap;
 
-/// What is asked of a package, and its candidates.
+/// The requirements on a package, and its candidates.
 #[derive(Drop)]
 pub struct Group<'a> {
     pub asks: Vec<Ask<'a>>,
@@ -22,7 +24,7 @@ pub struct Group<'a> {
 /// The groups, by the names of their packages.
 pub type Groups<'a> = BTreeMap<&'a str, Group<'a>>;
 
-/// The packages that are asked for, each with what is asked of it and with its candidates, in order.
+/// The required packages, each with the requirements on it and its candidates, both in their order.
 pub fn by_package<'a>(
     alloc: Global,
     asks: &[Ask<'a>],
@@ -40,7 +42,7 @@ pub fn by_package<'a>(
     Ok(groups)
 }
 
-/// The packages that are asked for, with what is asked of them.
+/// The required packages, with the requirements on them and no candidates.
 fn asks_by_package<'a>(alloc: Global, asks: &[Ask<'a>]) -> Result<Groups<'a>, AllocError>
     ensures packages { IfOk result (λ groups. (q : List ℕ) →
         has_group groups q ≡ list_any (is_of q) (asks_seen asks.now)) }
@@ -55,7 +57,7 @@ fn asks_by_package<'a>(alloc: Global, asks: &[Ask<'a>]) -> Result<Groups<'a>, Al
     Ok(groups)
 }
 
-/// Adds what is asked to its package's group, which is made where there is none.
+/// Adds a requirement to its package's group, which is created if there is none.
 fn add_ask<'a>(alloc: Global, groups: &mut Groups<'a>, ask: &Ask<'a>) -> Result<(), AllocError>
     ensures packages { OnOk result ((q : List ℕ) →
         has_group groups.new q ≡ (has_group groups.old q || is_of q (ask_seen ask.now))) }
@@ -72,7 +74,7 @@ fn add_ask<'a>(alloc: Global, groups: &mut Groups<'a>, ask: &Ask<'a>) -> Result<
     Ok(())
 }
 
-/// Adds the candidates of the packages that have a group.
+/// Adds each candidate whose package has a group to that group.
 fn add_candidates<'a>(
     groups: &mut Groups<'a>,
     candidates: &'a [Candidate],
@@ -89,7 +91,7 @@ fn add_candidates<'a>(
     Ok(())
 }
 
-/// Adds a candidate to its package's group, where there is one.
+/// Adds a candidate to its package's group, if there is one.
 fn add<'a>(groups: &mut Groups<'a>, numbered: Numbered<'a>) -> Result<(), AllocError>
     ensures packages { OnOk result ((q : List ℕ) → has_group groups.new q ≡ has_group groups.old q) }
     ensures asks { OnOk result ((q : List ℕ) → asks_for groups.new q ≡ asks_for groups.old q) }

@@ -1,4 +1,4 @@
-//! Laws over the definitions of the answer. The functions do nothing: each one's contract is its law.
+//! Laws about answers. The functions do nothing: each one's contract is its law.
 
 ghost use Rattle.std.specs.Prelude.{◌≡◌, ℕ, List, filter};
 ghost use Rattle.std.specs.List.Sorted.{IsPermutation};
@@ -8,34 +8,34 @@ ghost use Rattle.reqtable_text.specs.declared.candidates.Candidate.{Candidate};
 ghost use Rattle.reqtable_answer.specs.Asks.{is_of};
 ghost use Rattle.reqtable_answer.specs.Answer.{Admits, RowRecord, IsRow, IsAnswer, IsAnswerText, row_text};
 
-/// What is asked has one answer.
+/// Requirements and candidates have only one answer.
 pub fn there_is_one_answer()
     ensures { (admits : Admits) (asks : List Front) (candidates : List Candidate)
         (rows others : List RowRecord) →
         IsAnswer admits asks candidates rows → IsAnswer admits asks candidates others → rows ≡ others }
 {}
 
-/// And so one text of it.
+/// Requirements and candidates have only one answer text.
 pub fn the_answer_has_one_text()
     ensures { (admits : Admits) (asks : List Front) (candidates : List Candidate) (a b : List ℕ) →
         IsAnswerText admits asks candidates a → IsAnswerText admits asks candidates b → a ≡ b }
 {}
 
-/// The order in which things are asked doesn't count.
+/// The order of the requirements doesn't change the answer.
 pub fn order_of_asks_changes_nothing()
     ensures { (admits : Admits) (asks others : List Front) (candidates : List Candidate)
         (rows : List RowRecord) → IsPermutation asks others →
         IsAnswer admits asks candidates rows → IsAnswer admits others candidates rows }
 {}
 
-/// What is asked of other packages changes no row.
+/// Requirements on other packages don't change a package's row.
 pub fn other_packages_change_no_row()
     ensures { (admits : Admits) (asks others : List Front) (candidates : List Candidate) (row : RowRecord) →
         filter (is_of row.name) asks ≡ filter (is_of row.name) others →
         IsRow admits asks candidates row → IsRow admits others candidates row }
 {}
 
-/// Candidates of other packages change nothing in a package's line.
+/// Candidates of other packages don't change a package's line of text.
 pub fn other_candidates_change_no_line()
     ensures { (admits : Admits) (asks : List Front) (candidates others : List Candidate)
         (row other : RowRecord) →

@@ -1,25 +1,29 @@
-//! What is asked of a package, lent by whatever asks it.
+//! What is required of a package, borrowed from the requirement.
+//!
+//! An answer is to borrowed asks, and says nothing of markers: which apply is the caller's word. An `Ask`
+//! borrows a name, extras and a source, so requirements kept in another form than `Requirement` are
+//! answered too. Of a URL only that there is one is known.
 
 ghost use Rattle.std.specs.Prelude.{◌≡◌};
-ghost use Rattle.reqtable_answer.specs.Says.{ask_seen, source_seen, requirement_seen, wanted_seen};
+ghost use Rattle.reqtable_answer.specs.Says.{ask_seen, marked_seen, source_seen, requirement_seen, wanted_seen};
 
 use pep440_specifier_list::VersionSpecifiers;
 use pep508_name::{ExtraName, PackageName};
-use pep508_requirement::{Requirement, VersionOrUrl};
+use pep508_requirement::{MarkedRequirement, Requirement, VersionOrUrl};
 use pep508_url::VerbatimUrl;
 
-/// With what a package is asked for.
+/// How a requirement restricts its package.
 #[derive(Clone, Copy)]
 pub enum AskSource<'a> {
-    /// Nothing: any version.
+    /// Not at all: any version is accepted.
     Any,
-    /// Specifiers, which all have to take the version.
+    /// By specifiers, which all have to accept the version.
     Specifiers(&'a VersionSpecifiers),
-    /// A URL, and no word on which.
+    /// By a URL, which isn't kept.
     Url,
 }
 
-/// What is asked of a package.
+/// What is required of a package: its name, extras, and specifiers or a URL.
 #[derive(Clone, Copy)]
 pub struct Ask<'a> {
     pub name: &'a PackageName,
@@ -27,7 +31,7 @@ pub struct Ask<'a> {
     pub source: AskSource<'a>,
 }
 
-/// What a requirement asks for, its marker apart. It takes no memory.
+/// What a requirement requires of its package, without its marker. Allocates no memory.
 pub fn ask_of(requirement: &Requirement<VerbatimUrl>) -> Ask<'_>
     ensures { ask_seen result ≡ requirement_seen requirement.now }
 {
@@ -35,6 +39,18 @@ pub fn ask_of(requirement: &Requirement<VerbatimUrl>) -> Ask<'_>
         name: &requirement.name,
         extras: requirement.extras.as_slice(),
         source: source_of(&requirement.version_or_url),
+    }
+}
+
+/// What a requirement whose marker is a formula requires of its package, without that marker. Allocates no
+/// memory.
+pub fn ask_of_marked(marked: &MarkedRequirement<VerbatimUrl>) -> Ask<'_>
+    ensures { ask_seen result ≡ marked_seen marked.now }
+{
+    Ask {
+        name: &marked.name,
+        extras: marked.extras.as_slice(),
+        source: source_of(&marked.version_or_url),
     }
 }
 

@@ -1,5 +1,5 @@
 #![tactic(auto)]
-//! The answer to what is asked of packages: for each package the greatest candidate that may be taken.
+//! The answer to requirements on packages: for each package the highest candidate that is accepted.
 //!
 //! ```text
 //! let answer = answer_to(alloc, &asks, &candidates, &Admission::new(|_, _| true))?;
@@ -21,4 +21,4 @@ pub use admission::Admission;
 pub use answer::{Answer, Outcome, Row};
 pub use answering::answer_to;
 pub use extras::united_extras;
-pub use lent::{Ask, AskSource, ask_of};
+pub use lent::{Ask, AskSource, ask_of, ask_of_marked};

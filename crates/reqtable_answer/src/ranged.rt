@@ -1,4 +1,8 @@
-//! The range of many asks, which tells what they take together.
+//! The range of many requirements, which decides what they accept together.
+//!
+//! From 16 candidates on, a package with more than 1,024 pairs of a specifier and a candidate gets one
+//! range; with fewer each pair is tested directly. The answer is the same either way, by the law that
+//! ranges agree with matching.
 
 ghost use Rattle.std.specs.Prelude.{◌≡◌, ◌<◌, ◌↔◌, ◌&&◌, IsTrue, length, map, IfOk, OnOk};
 ghost use Rattle.std.specs.List.{list_all};
@@ -13,17 +17,18 @@ use pep440_specifier_list::VersionSpecifiers;
 use reqtable_range::{OneRange, one_range};
 use std::alloc::{AllocError, Global};
 
-/// With fewer candidates each one is asked of every ask.
+/// With fewer candidates than this, each is tested against every specifier.
 const FEW_CANDIDATES: usize = 16;
 
-/// With no more questions (members times candidates) each candidate is asked of every ask.
+/// Up to this product of specifiers and candidates every pair is tested directly.
 const FEW_QUESTIONS: usize = 1024;
 
-/// A range that tells what the asks take, where members times candidates are many.
+/// A range that decides what the requirements accept, or `None` where the product of specifiers and
+/// candidates is small enough to test every pair.
 ///
-/// Takes the O(n log n) comparisons of versions of `one_range` for n members, and memory for as many places
-/// as there are lists. Where it gives none, fewer than 16 candidates are asked of n members each, or all of
-/// them together at most 1,024 questions.
+/// Needs the O(n log n) comparisons of versions of `one_range` for n specifiers, and memory for one reference
+/// per list. Where it is `None`, each of n specifiers is tested against fewer than 16 candidates, or all of
+/// them together at most 1,024 times.
 pub fn range_of<'a>(
     alloc: Global,
     asks: &[Ask<'a>],
@@ -41,7 +46,7 @@ pub fn range_of<'a>(
     Ok(Some(one_range(alloc, &lists)?))
 }
 
-/// Whether the lists have more members together than so many. The lists are counted until they do.
+/// Whether the lists together have more than `most` specifiers. Counts lists only until that is certain.
 fn has_more_members(lists: &[&VersionSpecifiers], most: usize) -> bool
     ensures { IsTrue result ↔ (most < length (members_of (map (λ list. list.now) lists.now))) }
 {
@@ -56,7 +61,7 @@ fn has_more_members(lists: &[&VersionSpecifiers], most: usize) -> bool
     false
 }
 
-/// The lists of specifiers that the asks have.
+/// The lists of specifiers of those requirements that have one.
 fn lists_of<'a>(alloc: Global, asks: &[Ask<'a>]) -> Result<Vec<&'a VersionSpecifiers>, AllocError>
     ensures { IfOk result (λ lists. (version : VersionRecord) →
         all_take (map (λ list. list.now) lists.items) version
@@ -69,7 +74,7 @@ fn lists_of<'a>(alloc: Global, asks: &[Ask<'a>]) -> Result<Vec<&'a VersionSpecif
     Ok(lists)
 }
 
-/// Adds the list of specifiers that an ask has, where it has one.
+/// Appends the list of specifiers of a requirement, if it has one.
 fn lend_list<'a>(lists: &mut Vec<&'a VersionSpecifiers>, ask: &Ask<'a>) -> Result<(), AllocError>
     ensures { OnOk result ((version : VersionRecord) →
         all_take (map (λ list. list.now) lists.new.items) version

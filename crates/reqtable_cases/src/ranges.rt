@@ -1,4 +1,4 @@
-//! The range of what some lines ask for together.
+//! The version range that lines require together.
 
 ghost use Rattle.std.specs.Prelude.{◌≡◌, ◌&&◌, IfOk};
 ghost use Rattle.std.specs.List.{list_all};
@@ -11,11 +11,16 @@ use reqtable_range::{has_range, shared_range};
 use std::alloc::{AllocError, Global};
 use version_ranges::Ranges;
 
-/// The points in the ranges of all members (PEP 440, "Version specifiers"), all points where there are none.
+/// The intersection of the ranges of all specifiers (PEP 440, "Version specifiers"); the full range if there
+/// are none.
 ///
-/// There is no range where a member's own range doesn't tell which plain versions it takes: beside `===`, and
-/// beside `<` or `>` with a post-release; nor where a number of it can't be raised. n members take O(n log n)
-/// comparisons of versions, and memory for the bounds.
+/// `None` where the range of some specifier doesn't decide which plain versions it accepts (`===`, and `<` or
+/// `>` with a post-release), or can't be built since a number would have to be raised past 64 bits. n
+/// specifiers need O(n log n) comparisons of versions, and memory for the bounds.
+///
+/// # Errors
+///
+/// `AllocError` when memory runs out.
 pub fn asked_range(
     alloc: Global,
     members: &[&VersionSpecifier],
@@ -29,7 +34,7 @@ pub fn asked_range(
     Ok(Some(shared_range(alloc, members)?))
 }
 
-/// Whether each member's range tells which plain versions it takes.
+/// Whether each specifier's range decides which plain versions it accepts.
 fn are_ranged(alloc: Global, members: &[&VersionSpecifier]) -> Result<bool, AllocError>
     ensures { IfOk result (λ ranged. ranged ≡ list_all is_ranged (lent members.now)) }
 {

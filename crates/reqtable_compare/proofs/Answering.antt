@@ -10,7 +10,7 @@ use Rattle.reqtable_requirements.specs.Asks.{AreOfNodes}
 use Rattle.reqtable_requirements.specs.LineReading.{LineRecord}
 use Rattle.reqtable_requirements.specs.Requirements.{StandsFor}
 use Rattle.reqtable_requirements.specs.declared.requirements.Line.{Line}
-use Rattle.reqtable_requirements.proofs.Lines.{lines_kept}
+use Rattle.reqtable_compare.proofs.Kept.{lines_kept}
 use Rattle.reqtable_table.specs.Cases.{HasItsCases}
 use Rattle.reqtable_table.specs.Kept.{KeptPackage}
 use Rattle.reqtable_table.proofs.Packages.{has_kept}

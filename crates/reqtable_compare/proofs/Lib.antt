@@ -11,6 +11,7 @@ pub mod Summaries
 pub mod Packages
 pub mod Trees
 pub mod Whole
+pub mod Kept
 pub mod Answering
 pub mod Apart
 pub mod Covered

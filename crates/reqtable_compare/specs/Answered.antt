@@ -1,4 +1,4 @@
--- Lists that are answered alike where they require the same.
+-- Lists that have the same answers if they require the same.
 use Rattle.std.specs.Prelude.{List, All}
 use Rattle.pep440_specifier.specs.Building.{IsBuilt}
 use Rattle.pep440_specifier.specs.Matching.{SpecifierRecord}
@@ -8,12 +8,12 @@ use Rattle.reqtable_range.specs.Together.{IsPlain}
 use Rattle.reqtable_answer.specs.Asks.{specifiers_of}
 use Rattle.reqtable_requirements.specs.LineReading.{LineRecord}
 
--- a specifier as texts say it: its version goes with its operator, and marks no end of a range
+-- a specifier that can be written: its version fits its operator, and marks no end of a range
 pub record IsOfText (specifier : SpecifierRecord) : Type 0 where
   pub built : IsBuilt specifier
   pub said : IsSaid specifier.version
 
--- each specifier of the lines is one
+-- each specifier of the lines can be written
 abbrev pub AreOfTexts : List LineRecord → Type 0
 AreOfTexts lines = All (λ line. All IsOfText (specifiers_of line.front.source)) lines
 

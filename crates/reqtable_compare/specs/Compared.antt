@@ -1,4 +1,4 @@
--- What comparing two lists answers.
+-- The results of comparing two lists.
 use Rattle.std.specs.Prelude.{◌≡◌, ℕ, List, Some, None, Result, Ok, Err}
 use Rattle.pep508_tree.specs.Meaning.{NodeRecord}
 use Rattle.reqtable_requirements.specs.LineReading.{LineRecord}
@@ -14,19 +14,19 @@ use Rattle.reqtable_compare.specs.declared.sides.Side.{Side}
 use Rattle.reqtable_compare.specs.declared.sides.Side.TheVariants.{Left, Right}
 use Rattle.reqtable_compare.specs.Refusals.{line_refusal}
 
--- no package has too many cases
+-- no package has more cases than the limit
 abbrev pub NoneTooMany : ℕ → List LineRecord → Type 0
 NoneTooMany limit lines = (name : List ℕ) → HasTooMany limit lines name → ⊥
 
--- nothing is in the way of an answer
+-- two lists can be compared
 pub record MayCompare (limit : ℕ) (left right : List LineRecord) : Type 0 where
   pub lines : line_refusal left right ≡ None
   pub ours : NoneTooMany limit left
   pub theirs : NoneTooMany limit right
 
--- what comparing the lines of two lists answers, with these nodes afterwards: whether both require the same,
--- and if not, the first difference; or the first line that is in the way, those of the left list first; or
--- the first package by name that has too many cases, those of the left list first; or want of memory
+-- the result of comparing the lines of two lists, with these nodes afterwards: whether both require the same,
+-- and if not, the first difference; or the first line that can't be compared, those of the left list first;
+-- or the first package by name that has too many cases, those of the left list first; or out of memory
 abbrev pub Compares : ℕ → List NodeRecord → List LineRecord → List LineRecord → Result Same SameError → Type 0
 Compares limit nodes left right (Ok Yes) = MayCompare limit left right × RequireTheSame left right
 Compares limit nodes left right (Ok (No name tree)) =
@@ -39,7 +39,7 @@ Compares limit nodes left right (Err (TooManyCases Right name)) =
     (line_refusal left right ≡ None) × NoneTooMany limit left × IsFirstTooMany limit right name
 Compares limit nodes left right (Err Memory) = Unit {0}
 
--- what making the table of one of two lists answers
+-- the result of building the table of one of two lists
 abbrev pub TablesSide : Side → ℕ → List NodeRecord → List LineRecord → Result (List KeptPackage) SameError
     → Type 0
 TablesSide side limit nodes said (Ok table) = Builds limit nodes said (Ok table)

@@ -22,11 +22,11 @@ pub record Listed : Type 0 where
   pub lines : List Line
   pub table : List KeptPackage
 
--- what it requires of a package
+-- the summaries of what a list requires of a package
 abbrev pub Sums : Listed → List ℕ → List SummaryRecord → Type 0
 Sums side name summaries = AreSummed side.lines (cases_under name side.table) summaries
 
--- both require the same of a package
+-- both lists require the same of a package
 pub record AgreeOn (nodes : List NodeRecord) (left right : Listed) (name : List ℕ) : Type 0 where
   pub ours : List SummaryRecord
   pub theirs : List SummaryRecord
@@ -34,7 +34,7 @@ pub record AgreeOn (nodes : List NodeRecord) (left right : Listed) (name : List 
   pub their_sums : Sums right name theirs
   pub pass : AllByRecursion (PassesAll nodes theirs) ours
 
--- they don't of this one, at these trees of both
+-- the lists require different things of a package, at these trees of both
 pub record DifferOn (nodes : List NodeRecord) (left right : Listed) (name : List ℕ) (one other : Tree)
     : Type 0 where
   pub ours : List SummaryRecord
@@ -59,7 +59,7 @@ abbrev pub FindsPlace : List NodeRecord → Listed → Listed → List (List ℕ
 FindsPlace nodes left right names None = AllByRecursion (AgreeOn nodes left right) names
 FindsPlace nodes left right names (Some place) = IsFirstPlace nodes left right names place
 
--- ---- and what comes of it
+-- ---- the result for a difference
 
 abbrev pub listed : List Line → List KeptPackage → Listed
 listed lines table = record { lines = lines; table = table }
@@ -67,7 +67,7 @@ listed lines table = record { lines = lines; table = table }
 abbrev pub place_seen : Found → Place
 place_seen place = (place.name, (place.meeting.one, place.meeting.other))
 
--- a tree of new nodes that holds somewhere, and just where both of a place do
+-- a tree of new nodes holds under some valuation, and exactly where both trees of a place do
 pub record IsBoth (old new : List NodeRecord) (one other tree : Tree) : Type 0 where
   pub made : IsTree new tree
   pub somewhere : (v : Valuation) × (holds new tree v ≡ true)
@@ -79,7 +79,7 @@ AnswersPlace old new place (Ok (No name tree)) =
     (name ≡ place.0) × IsBoth old new place.1.0 place.1.1 tree
 AnswersPlace old new place (Err error) = error ≡ Memory
 
--- what comparing the tables of two lists on some packages answers
+-- the result of comparing the tables of two lists on some packages
 pub record DiffersFirst (old new : List NodeRecord) (left right : Listed) (names : List (List ℕ))
     (name : List ℕ) (tree : Tree) : Type 0 where
   pub place : Place

@@ -1,4 +1,4 @@
--- What is told of two lists that were not compared.
+-- The messages for two lists that were not compared.
 use Rattle.std.specs.Prelude.{ℕ, List, ◌++◌, codes}
 use Rattle.std.specs.Fmt.{decimal}
 use Rattle.reqtable_compare.specs.declared.sides.LineCause.{LineCause}

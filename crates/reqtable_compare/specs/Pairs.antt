@@ -7,7 +7,7 @@ use Rattle.pep508_tree.specs.Disjoint.{AreDisjoint}
 use Rattle.reqtable_compare.specs.declared.pairing.Meeting.{Meeting}
 use Rattle.reqtable_compare.specs.Summed.{SummaryRecord, Alike}
 
--- a pair requires the same, or never holds together
+-- the cases of a pair require the same, or never hold together
 abbrev pub Passes : List NodeRecord → SummaryRecord → SummaryRecord → Type 0
 Passes nodes a b = Alike a b ⊎ AreDisjoint nodes a.tree b.tree
 
@@ -17,18 +17,18 @@ PassesAll nodes right a = AllByRecursion (Passes nodes a) right
 abbrev pub AreOfTrees : List NodeRecord → List SummaryRecord → Type 0
 AreOfTrees nodes summaries = AllByRecursion (λ s. IsTree nodes s.tree) summaries
 
--- no two hold together
+-- no two cases hold together
 abbrev pub AreApart : List NodeRecord → List SummaryRecord → Type 0
 AreApart nodes [] = Unit {0}
 AreApart nodes (s ∷ rest) =
     AllByRecursion (λ other. AreDisjoint nodes s.tree other.tree) rest × AreApart nodes rest
 
--- both hold under the same valuations, and require the same
+-- both cases hold under the same valuations, and require the same
 pub record ArePartners (a b : SummaryRecord) : Type 0 where
   pub tree : a.tree ≡ b.tree
   pub alike : Alike a b
 
--- a pair that doesn't pass
+-- the cases of a pair require different things and hold together somewhere
 pub record Fails (nodes : List NodeRecord) (a b : SummaryRecord) : Type 0 where
   pub differ : Alike a b → ⊥
   pub meet : AreDisjoint nodes a.tree b.tree → ⊥
@@ -37,7 +37,7 @@ abbrev pub Decides : List NodeRecord → SummaryRecord → SummaryRecord → Boo
 Decides nodes a b true = Passes nodes a b
 Decides nodes a b false = Fails nodes a b
 
--- the first case of a side that fails beside one
+-- the tree of the first case of a side that fails with `one`
 pub record IsFirstOther (nodes : List NodeRecord) (one : SummaryRecord) (right : List SummaryRecord)
     (tree : Tree) : Type 0 where
   pub front : List SummaryRecord
@@ -52,7 +52,7 @@ abbrev pub FindsOther : List NodeRecord → SummaryRecord → List SummaryRecord
 FindsOther nodes one right None = PassesAll nodes right one
 FindsOther nodes one right (Some tree) = IsFirstOther nodes one right tree
 
--- the first case of a side beside which one of the other fails, and that one
+-- the trees of the first failing pair, by the left cases and then by the right ones
 pub record IsFirstPair (nodes : List NodeRecord) (left right : List SummaryRecord) (one other : Tree)
     : Type 0 where
   pub front : List SummaryRecord

@@ -1,4 +1,4 @@
--- Lines that can't be compared by versions alone.
+-- Lines that can't be compared by version ranges.
 use Rattle.std.specs.Prelude.{ℕ, Bool, true, false, List, [], ◌∷◌, Option, Some, None, is_none, is_some}
 use Rattle.std.specs.Prelude.{if◌then◌else◌}
 use Rattle.std.specs.List.{list_any}
@@ -18,7 +18,7 @@ use Rattle.reqtable_compare.specs.declared.sides.LineCause.TheVariants as causes
 use Rattle.reqtable_compare.specs.declared.sides.Side.{Side}
 use Rattle.reqtable_compare.specs.declared.sides.Side.TheVariants.{Left, Right}
 
--- `===`
+-- the operator is `===`
 abbrev pub is_exact : Operator → Bool
 is_exact ExactEqual = true
 is_exact LessThan = false
@@ -46,7 +46,7 @@ abbrev pub line_cause : Front → Option LineCause
 line_cause front =
     if is_url front.source then Some causes.Url else members_cause (specifiers_of front.source)
 
--- a line that can't be, in a list, by its number
+-- a line of a list, by its number, that can't be compared
 pub record Refusal : Type 0 where
   pub side : Side
   pub number : ℕ
@@ -57,12 +57,12 @@ refused_by side number (Some cause) later =
     Some (record { side = side; number = number; cause = cause })
 refused_by side number None later = later
 
--- the first of a list's, or else a later one
+-- the first refusal in a list, or else the later one
 abbrev pub refusal_in : Side → List LineRecord → Option Refusal → Option Refusal
 refusal_in side [] later = later
 refusal_in side (line ∷ lines) later =
     refused_by side line.number (line_cause line.front) (refusal_in side lines later)
 
--- the first of two lists
+-- the first refusal in two lists
 abbrev pub line_refusal : List LineRecord → List LineRecord → Option Refusal
 line_refusal left right = refusal_in Left left (refusal_in Right right None)

@@ -1,4 +1,4 @@
--- Read lines that can't be compared.
+-- Parsed lines that can't be compared.
 use Rattle.std.specs.Prelude.{Bool, List, [], ◌∷◌, Option, Some, None, is_none}
 use Rattle.pep440_specifier.specs.Matching.{SpecifierRecord}
 use Rattle.pep440_range.specs.Ranges.{range_of}
@@ -28,7 +28,7 @@ cause_by (Some (Url url)) = Some causes.Url
 abbrev pub line_cause_in : Line → Option LineCause
 line_cause_in line = cause_by line.requirement.version_or_url
 
--- the first of a list's, or else a later one
+-- the first refusal in parsed lines, or else the later one
 abbrev pub lines_refusal : Side → List Line → Option Refusal → Option Refusal
 lines_refusal side [] later = later
 lines_refusal side (line ∷ lines) later =

@@ -18,8 +18,8 @@ use Rattle.reqtable_requirements.specs.LineReading.{LineRecord}
 use Rattle.reqtable_cases.specs.Lines.{line_marks, asked_by}
 use Rattle.reqtable_cases.specs.Usable.{is_usable, IsRangeOf}
 
--- a case: whether it has lines, the extras that they ask for, the range that they share, whether some
--- specifier of them has a pre-release, and where it holds
+-- a case: whether it has lines, their extras, the range that they share, whether some specifier of them names
+-- a pre-release, and the tree that holds where the case applies
 pub record SummaryRecord : Type 0 where
   pub some : Bool
   pub extras : List (List ℕ)
@@ -32,7 +32,7 @@ SameRange (Some a) (Some b) = HoldSamePoints version_cmp a b
 SameRange (Some a) None = ⊥
 SameRange None other = ⊥
 
--- both have lines, which ask for the same
+-- both cases have lines, which require the same
 pub record BothAlike (a b : SummaryRecord) : Type 0 where
   pub some : a.some ≡ true
   pub other : b.some ≡ true
@@ -47,7 +47,7 @@ abbrev pub some_asks : List Front → Bool
 some_asks [] = false
 some_asks (ask ∷ asks) = true
 
--- the asks of a case, which are usable; one without lines has no range to tell
+-- the summary of a case with these requirements, which are usable; one without lines needs no range
 pub record IsSummaryOf (asks : List Front) (summary : SummaryRecord) : Type 0 where
   pub some : summary.some ≡ some_asks asks
   pub rising : IsStrictlySortedBy (slice_cmp nat_cmp) summary.extras
@@ -56,12 +56,12 @@ pub record IsSummaryOf (asks : List Front) (summary : SummaryRecord) : Type 0 wh
   pub range : some_asks asks ≡ true → IsRangeOf asks summary.range
   pub prerelease : summary.prerelease ≡ names_prerelease asks
 
--- a set of the lines with its tree
+-- the summary of a set of the lines with its tree
 pub record IsOfSet (lines : List LineRecord) (summary : SummaryRecord) (set : Marks × Tree) : Type 0 where
   pub asks : IsSummaryOf (asked_by set.0 lines) summary
   pub tree : summary.tree ≡ set.1
 
--- the cases of some lines, in their order
+-- the summaries of the cases of some lines, in their order
 pub record AreSummaries (nodes : List NodeRecord) (lines : List LineRecord) (summaries : List SummaryRecord)
     : Type 0 where
   pub sets : List (Marks × Tree)

@@ -15,7 +15,7 @@ abbrev pub some_numbers : List ℕ → Bool
 some_numbers [] = false
 some_numbers (number ∷ numbers) = true
 
--- a case of a table, with the extras of its lines
+-- the summary of a table's case, with the extras of its lines
 pub record IsSummed (lines : List Line) (summary : SummaryRecord) (case : KeptCase) : Type 0 where
   pub some : summary.some ≡ some_numbers case.numbers
   pub rising : IsStrictlySortedBy (slice_cmp nat_cmp) summary.extras
@@ -25,7 +25,7 @@ pub record IsSummed (lines : List Line) (summary : SummaryRecord) (case : KeptCa
   pub prerelease : summary.prerelease ≡ case.prerelease
   pub tree : summary.tree ≡ case.tree
 
--- nothing is required
+-- the summary of a case without lines, which requires nothing
 abbrev pub no_lines : SummaryRecord
 no_lines = record { some = false; extras = []; range = None; prerelease = false; tree = always }
 

@@ -1,4 +1,9 @@
-//! Two lists, compared package by package.
+//! Comparison of two requirement lists, package by package.
+//!
+//! Lists are compared by points and not by the versions that there are, so the result does not depend on
+//! candidates. They are compared by whether a case names a pre-release too: `>=1.0` and `>=1.0,!=0.9.dev0`
+//! have the same points, but the second admits pre-releases as 2.0a1. Cases without any point differ by it
+//! too, so that the law on answers says nothing of the admission test.
 
 ghost use Rattle.std.specs.Prelude.{◌≡◌, None, List, map, IfOk};
 ghost use Rattle.std.specs.List.{AllZip, AllByRecursion};
@@ -33,31 +38,46 @@ use reqtable_requirements::{Line, Requirements};
 use reqtable_table::{Table, TableError};
 use std::alloc::{AllocError, Global};
 
-/// Where two lists require different things: of a package, where both trees hold.
+/// A place at which two lists require different things: a package, and the trees of two cases that hold
+/// together.
 #[derive(Drop)]
 struct Place {
     name: PackageName,
     meeting: Meeting,
 }
 
-/// Whether two lists require the same of each package under each valuation of markers: the package or not,
-/// the same extras of it, the same points in the ranges of all its specifiers (PEP 440, "Version
-/// specifiers"), also where no version lies between two, and whether any of these specifiers has a
-/// pre-release or developmental release (PEP 440, "Handling of pre-releases"). If not, the first package that
-/// differs, and the marker of the first pair of its cases that do.
+/// Whether two lists require the same of each package under every valuation of markers, and so in every
+/// environment with any extras.
 ///
-/// A line with a URL, with `===`, with `<` or `>` and a post-release, or with a number that can't be raised
-/// can't be compared, even where it never applies; and a package can't that has more cases than the limit in
-/// one of the lists, whatever differs before it. Both lists must have been read with this interner.
+/// Per package this compares whether it is required at all, its extras, the intersection of the version
+/// ranges of all its specifiers (PEP 440, "Version specifiers"), and whether one of these specifiers names a
+/// pre-release or developmental release (PEP 440, "Handling of pre-releases"). Ranges are compared as sets of
+/// points, so they can differ in points between versions alone, as `~=1.2` and `>=1.2,<2` do, which accept
+/// the same versions. If the lists differ, the result has the first package that does, and the marker of the
+/// first pair of its cases that do; that marker holds under some valuation, which need not match a real
+/// interpreter.
 ///
-/// A package of which both lists have equal lines, in whatever order, is settled by these: the same extras,
-/// specifiers of the same operators and numbers, and equal markers. No case of it is made, where n lines of
-/// it can't have more cases than the limit, 2^n <= limit, in either list. n lines take O(n log n) comparisons
-/// of names, and a package with k and m of them at most 2 * k * m comparisons of lines.
+/// Ranges decide plain versions alone: those without a local part that are no post-releases. So for lists
+/// that require the same different builds can still be selected, as for `torch==2.0+cu118` with `torch<=2.0`,
+/// and `torch==2.0+cu121` with `torch<=2.0`: both ranges are empty, but `<=2.0` accepts either build.
 ///
-/// Of the lines of all other packages tables are made, of a copy, as `Table::build` does: so cases are
-/// counted in either list. A package with k and m cases takes at most k * m comparisons of what two cases
-/// require, and k where each case of it stands in both lists and requires the same there.
+/// Both lists must have been read with this interner.
+///
+/// A package of which both lists have equal lines, in whatever order, is settled by these: equal extras,
+/// specifiers with equal operators and numbers, and equal markers. Its cases are not built, if n lines of it
+/// can't have more cases than the limit, 2^n <= limit, in either list. n lines need O(n log n) comparisons of
+/// names, and a package with k and m of them at most 2 * k * m comparisons of lines.
+///
+/// From the lines of all other packages tables are built, from a copy, as by `Table::build`: so cases are
+/// counted in either list. A package with k and m cases needs at most k * m comparisons of what two cases
+/// require, and k if each of its cases is in both lists and requires the same there.
+///
+/// # Errors
+///
+/// `SameError::Line` for the first line that can't be compared, even if it never applies: one with a URL,
+/// with `===`, with `<` or `>` and a post-release, or whose range would need a number past 64 bits.
+/// `SameError::TooManyCases` for the first package that has more cases than `limit` in one of the lists,
+/// whatever differs before it. `SameError::Memory` when memory runs out.
 pub fn same<'a>(
     alloc: Global,
     left: &'a Requirements,
@@ -84,7 +104,7 @@ pub fn same<'a>(
     compared_on(alloc, left, right, &names, interner, limit)
 }
 
-/// Compares two lists on the open ones of their packages.
+/// Compares two lists by the packages that aren't settled by equal lines.
 fn compared_on(
     alloc: Global,
     left: &Requirements,
@@ -176,7 +196,7 @@ fn compared<'a>(
     }
 }
 
-/// The answer of a difference.
+/// The result for a difference: its package, and the conjunction of its two trees.
 fn difference(alloc: Global, place: Place, interner: &mut Interner) -> Result<Same, SameError>
     requires one { IsTree interner.old.nodes place.meeting.one }
     requires other { IsTree interner.old.nodes place.meeting.other }

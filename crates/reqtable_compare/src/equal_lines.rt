@@ -1,4 +1,7 @@
-//! Lines that say the same.
+//! Lines of two lists that are equal.
+//!
+//! Specifiers are compared by their release numbers and not by `==`, which ignores zeros at a release's
+//! end: `~=1.0` and `~=1.0.0` accept different versions.
 
 ghost use Rattle.std.specs.Prelude.{◌≡◌, map, IsTrue};
 ghost use Rattle.pep440_version.specs.Record.{segment_of};
@@ -12,8 +15,7 @@ use pep508_requirement::VersionOrUrl;
 use pep508_url::VerbatimUrl;
 use reqtable_requirements::Line;
 
-/// Whether each of some lines says what one of the others does. Of n and m lines it takes at most n * m
-/// comparisons.
+/// Whether each line equals one of the others. n and m lines need at most n * m comparisons.
 pub(crate) fn are_said(lines: &[&Line], others: &[&Line]) -> bool
     ensures { IsTrue result → AreSaidIn (lent others.now) (lent lines.now) }
 {
@@ -25,7 +27,7 @@ pub(crate) fn are_said(lines: &[&Line], others: &[&Line]) -> bool
     true
 }
 
-/// Whether one of some lines says the same.
+/// Whether a line equals one of some others.
 #[tactic(auto, using(crate::proofs::Meant::said_at))]
 fn is_said(line: &Line, others: &[&Line]) -> bool
     ensures { IsTrue result → IsSaidIn (lent others.now) line.now }
@@ -38,7 +40,7 @@ fn is_said(line: &Line, others: &[&Line]) -> bool
     false
 }
 
-/// Whether two lines of a package say the same, their numbers apart.
+/// Whether two lines of a package are equal but for their numbers.
 fn say_the_same(one: &Line, other: &Line) -> bool
     ensures { IsTrue result → SayTheSame one.now other.now }
 {
@@ -55,7 +57,7 @@ fn have_same_extras(ours: &[ExtraName], theirs: &[ExtraName]) -> bool
     ours == theirs
 }
 
-/// Whether both ask for any version, or for the same specifiers.
+/// Whether both accept any version, or have equal specifiers. `false` where one has a URL.
 fn ask_the_same(
     one: &Option<VersionOrUrl<VerbatimUrl>>,
     other: &Option<VersionOrUrl<VerbatimUrl>>,
@@ -74,7 +76,7 @@ fn ask_the_same(
     }
 }
 
-/// Whether two lists have the same specifiers, number by number: `~=1.0` isn't `~=1.0.0`.
+/// Whether two lists have equal specifiers, number by number: `~=1.0` isn't `~=1.0.0`.
 fn are_same(ours: &[VersionSpecifier], theirs: &[VersionSpecifier]) -> bool
     ensures { IsTrue result → ours.now ≡ theirs.now }
 {
@@ -95,7 +97,7 @@ fn is_same(one: &VersionSpecifier, other: &VersionSpecifier) -> bool
     one.operator() == other.operator() && is_same_version(one.version(), other.version())
 }
 
-/// Whether two versions have the same parts, with the zeros at the end of a release.
+/// Whether two versions have equal parts, including zeros at the end of a release.
 fn is_same_version(one: &Version, other: &Version) -> bool
     ensures { IsTrue result → one.now ≡ other.now }
 {

@@ -1,4 +1,4 @@
-//! Laws over the definitions. The functions do nothing: each one's contract is its law.
+//! Laws about comparing lists. The functions do nothing: each one's contract is its law.
 
 ghost use Rattle.std.specs.Prelude.{◌≡◌, ◌↔◌, ℕ, List, None, Ok};
 ghost use Rattle.pep508_diagram.specs.Question.{Valuation};
@@ -15,8 +15,9 @@ ghost use Rattle.reqtable_compare.specs.Answered.{AreOfTexts, ArePlain};
 use pep440_specifier::laws::{a_read_specifier_is_built, specifier_text_is_read};
 use reqtable_requirements::laws::requirements_are_their_lines;
 
-/// Lists that can be compared and require the same have the same answers in each environment with extras, to
-/// plain candidates and under every admission test, whatever it makes of pre-releases.
+/// Lists that can be compared and require the same have equal answers in each environment with extras, if all
+/// candidates are plain (without a local part, and no post-releases), and under every admission test,
+/// whatever it does with pre-releases.
 pub fn texts_that_require_the_same_are_answered_alike()
     ensures rows { (left right : List LineRecord) → line_refusal left right ≡ None → AreOfTexts left →
         AreOfTexts right → RequireTheSame left right → (v : Valuation) (admits : Admits) →
@@ -29,7 +30,7 @@ pub fn texts_that_require_the_same_are_answered_alike()
         ↔ IsAnswerText admits (asks_of v right) candidates text }
 {}
 
-/// The specifiers of the lines that are read of a text are as texts say them.
+/// The specifiers of lines that were read from a text are ones that can be written.
 pub fn specifiers_of_read_lines_are_of_texts()
     ensures { (vars : Variables) (bytes : List ℕ) (lines : List LineRecord) →
         requirements_of vars bytes ≡ Ok lines → AreOfTexts lines }

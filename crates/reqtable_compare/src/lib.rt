@@ -1,4 +1,4 @@
-//! Whether two requirement lists require the same, and if not, of which package and where.
+//! Whether two requirement lists require the same, and if not, of which package and where they differ.
 #![tactic(auto)]
 
 mod comparing;

@@ -1,4 +1,7 @@
 //! The first pair of cases that hold together and require different things.
+//!
+//! Two cases are compared by what they require, and only if that differs are they tested for holding
+//! together, which makes no tree; a conjunction is made of the one pair that is reported.
 
 ghost use Rattle.std.specs.Prelude.{map, List, IfOk, IsTrue};
 ghost use Rattle.pep508_tree.specs.Meaning.{IsTree, NodeRecord};
@@ -12,10 +15,10 @@ use pep508_tree::{Interner, MarkerTree};
 use std::alloc::{AllocError, Global};
 use std::collections::HashMap;
 
-/// Of so many cases all are looked at sooner than one is looked up.
+/// Up to this many cases a linear scan beats a map lookup.
 const FEW: usize = 4;
 
-/// Where the cases of a side stand, by their trees.
+/// The indices of one side's cases, by their trees.
 type Places = HashMap<MarkerTree, usize>;
 
 /// The trees of two cases that hold together and require different things.
@@ -25,13 +28,13 @@ pub(crate) struct Meeting {
     pub(crate) other: MarkerTree,
 }
 
-/// The trees of the first pair, by the left side's cases and then by the right side's. None where each pair
-/// requires the same or never holds together.
+/// The trees of the first pair of cases that hold together and require different things, by the left side's
+/// cases and then by the right side's. `None` if each pair requires the same or never holds together.
 ///
-/// A case that has the tree of one on the other side, and requires the same, is compared with no other, since
-/// those never hold together with it: so sides that are alike take as many comparisons as they have cases.
-/// Else k and m cases take at most k * m comparisons, and as many looks at whether two trees are disjoint as
-/// there are pairs that require different things.
+/// A case whose tree is also a case's on the other side, which requires the same, is compared with no other,
+/// since those never hold together with it: so sides that are equal need as many comparisons as they have
+/// cases. Otherwise k and m cases need at most k * m comparisons, and one check whether two trees are
+/// disjoint for each pair that requires different things.
 pub(crate) fn first_trees(
     alloc: Global,
     interner: &Interner,
@@ -56,7 +59,7 @@ pub(crate) fn first_trees(
     Ok(None)
 }
 
-/// Where each of the cases stands, by its tree, where there are more than a few.
+/// The index of each case by its tree, or nothing if there are only a few cases.
 fn places_of(alloc: Global, right: &[Summary<'_>]) -> Result<Places, AllocError> {
     let mut places = HashMap::new(alloc);
     if right.len() <= FEW {
@@ -79,14 +82,14 @@ fn has_partner(places: &Places, one: &Summary<'_>, right: &[Summary<'_>]) -> boo
     }
 }
 
-/// Whether both have the same tree and require the same.
+/// Whether both cases have the same tree and require the same.
 fn is_partner(one: &Summary<'_>, other: &Summary<'_>) -> bool
     ensures { IsTrue result → ArePartners (summary_record one.now) (summary_record other.now) }
 {
     one.tree == other.tree && one.is_alike(other)
 }
 
-/// The tree of the first case that holds together with one and requires something else.
+/// The tree of the first case on the right that holds together with `one` and requires something else.
 fn first_other(
     alloc: Global,
     interner: &Interner,

@@ -1,4 +1,7 @@
 //! The first line of two lists that can't be compared.
+//!
+//! A line that cannot be compared refuses the lists even where it never applies, and before any case is
+//! made: why lists are refused is read off the lines one by one.
 
 ghost use Rattle.std.specs.Prelude.{◌≡◌, None, IfOk};
 ghost use Rattle.std.specs.Option.{option_map};
@@ -23,7 +26,7 @@ pub(crate) struct Refused {
     pub(crate) cause: LineCause,
 }
 
-/// The first of two lists, those of the left one first. Linear in the specifiers.
+/// The first line that can't be compared, those of the left list first. Linear in the specifiers.
 pub(crate) fn first_refusal(
     alloc: Global,
     left: &[Line],
@@ -38,7 +41,7 @@ pub(crate) fn first_refusal(
     }
 }
 
-/// The first line of a list that can't be compared.
+/// The first line of one list that can't be compared.
 fn refused_in(alloc: Global, side: Side, lines: &[Line]) -> Result<Option<Refused>, AllocError>
     ensures { IfOk result (λ found. option_map refused_seen found ≡ lines_refusal side lines.now None) }
 {
@@ -64,7 +67,8 @@ fn cause_of(alloc: Global, line: &Line) -> Result<Option<LineCause>, AllocError>
     }
 }
 
-/// The first cause that any of the specifiers is.
+/// The cause for which specifiers can't be compared, `===` before post-releases before numbers; `None` if
+/// they can.
 fn cause_of_members(
     alloc: Global,
     members: &[VersionSpecifier],

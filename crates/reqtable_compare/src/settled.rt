@@ -1,4 +1,8 @@
-//! The packages that are settled by their lines, since these are equal in both lists.
+//! The packages that need no comparison of cases, since their lines are equal in both lists.
+//!
+//! A package of which both lists have equal lines requires the same under every valuation, so none of its
+//! cases is made and none of its lines copied. It may still have too many cases, which refuses the lists,
+//! so lines settle it only where their number `n` excludes that, by 2^n (`has_room`).
 
 ghost use Rattle.std.specs.Prelude.{◌≡◌, ◌||◌, ℕ, false, true, List, map, IfOk, IsTrue};
 ghost use Rattle.std.specs.List.{list_any};
@@ -17,11 +21,11 @@ use reqtable_requirements::Line;
 use std::alloc::{AllocError, Global};
 
 /// The names of the packages that have to be compared by their cases, each once and in the order of their
-/// bytes. The others are settled: both lists have equal lines of them, and so few that no sets of these can
-/// be more than the limit.
+/// bytes. The others are settled: both lists have equal lines of them, and so few that the number of all
+/// their subsets is within the limit.
 ///
-/// n lines take O(n log n) comparisons of names. Of a package with k and m lines at most 2 * k * m pairs of
-/// lines are compared, and none where 2^k or 2^m is more than the limit.
+/// n lines need O(n log n) comparisons of names. Of a package with k and m lines at most 2 * k * m pairs of
+/// lines are compared, and none if 2^k or 2^m is more than the limit.
 pub(crate) fn open_packages<'a>(
     alloc: Global,
     left: &'a [Line],
@@ -36,7 +40,7 @@ pub(crate) fn open_packages<'a>(
     open_among(alloc, &names, &ours, &theirs, limit)
 }
 
-/// The names of the packages that either list names, each once and in the order of their bytes.
+/// The names of the packages in either list, each once and in the order of their bytes.
 fn names_of<'a>(
     alloc: Global,
     left: &'a [Line],
@@ -51,7 +55,7 @@ fn names_of<'a>(
     package_names(alloc, &[left, right])
 }
 
-/// Those of some names whose lines don't settle what is asked.
+/// Those of some names whose lines aren't equal in both lists, or are too many.
 fn open_among<'a>(
     alloc: Global,
     names: &[&'a PackageName],
@@ -76,7 +80,7 @@ fn open_among<'a>(
     Ok(unsettled)
 }
 
-/// Whether both lists have lines of a package that settle what is asked.
+/// Whether both lists have lines of a package, which are equal and few enough.
 fn is_settled(ours: &Groups<'_>, theirs: &Groups<'_>, name: &PackageName, limit: u64) -> bool
     ensures { IsTrue result → AreSettled limit (lines_at ours.now name.now) (lines_at theirs.now name.now) }
 {
@@ -89,8 +93,8 @@ fn is_settled(ours: &Groups<'_>, theirs: &Groups<'_>, name: &PackageName, limit:
     }
 }
 
-/// Whether the lines of a package say the same in both lists, and are so few that all sets of them are within
-/// the limit.
+/// Whether the lines of a package are equal in both lists, and so few that the number of all their subsets is
+/// within the limit.
 fn are_settled(ours: &[&Line], theirs: &[&Line], limit: u64) -> bool
     ensures { IsTrue result → AreSettled limit (lent ours.now) (lent theirs.now) }
 {

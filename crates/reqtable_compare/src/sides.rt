@@ -1,4 +1,4 @@
-//! What comes of comparing two lists.
+//! The results of comparing two lists.
 
 ghost use Rattle.std.specs.Prelude.{◌≡◌};
 ghost use Rattle.reqtable_compare.specs.Errors.{cause_text, side_text};
@@ -9,28 +9,29 @@ use std::alloc::{AllocError, AllocFailed};
 use std::error::Error;
 use std::fmt;
 
-/// One of two lists.
+/// One of two lists that are compared.
 #[derive(Clone, Copy, Debug, PartialEq, Eq)]
 pub enum Side {
     Left,
     Right,
 }
 
-/// Why a line can't be compared by versions alone.
+/// Why a line can't be compared by version ranges.
 #[derive(Clone, Copy, Debug, PartialEq, Eq)]
 pub enum LineCause {
-    /// It asks for a URL.
+    /// The line requires a URL.
     Url,
-    /// A specifier is of `===`, which goes by texts.
+    /// A specifier has `===`, which compares texts.
     ExactEqual,
-    /// A specifier is of `<` or `>` and has a post-release, whose range says less than it takes.
+    /// A specifier has `<` or `>` with a post-release, so that its range doesn't decide which versions it
+    /// accepts.
     PostAfterBound,
-    /// A number of a specifier's range can't be raised, since it is the greatest of 64 bits.
+    /// The range of a specifier would need a number past 64 bits.
     NumberAtEnd,
 }
 
 impl LineCause {
-    /// The words for it.
+    /// The cause in words, as in error messages.
     pub fn as_str(self) -> &'static str
         ensures { result.now ≡ cause_text self }
     {
@@ -54,10 +55,10 @@ impl fmt::Display for LineCause {
     }
 }
 
-/// What two lists are to each other.
+/// Whether two lists require the same, and if not, where they differ.
 #[derive(Debug, Drop)]
 pub enum Same {
-    /// In every environment, with any extras, they require the same.
+    /// They require the same in every environment, with any extras.
     Yes,
     /// They require different things of this package, the first by the bytes of its name, wherever the tree
     /// holds.

@@ -10,8 +10,9 @@ use pep508_name::ExtraName;
 use pep508_tree::MarkerTree;
 use version_ranges::Ranges;
 
-/// A case: whether it has lines, the extras that they ask for, in the order of their bytes, the range that
-/// they share, whether a specifier of them has a pre-release or developmental release, and where it holds.
+/// What a case requires and where: whether it has lines, their extras in the order of their bytes, the range
+/// that they share, whether one of their specifiers names a pre-release or developmental release, and the
+/// tree that holds exactly where the case applies.
 #[derive(Drop)]
 pub(crate) struct Summary<'a> {
     pub(crate) has_lines: bool,
@@ -22,7 +23,7 @@ pub(crate) struct Summary<'a> {
 }
 
 impl<'a> Summary<'a> {
-    /// Whether both require nothing, or both the same.
+    /// Whether both cases require nothing, or both the same.
     pub(crate) fn is_alike(&self, other: &Summary<'a>) -> bool
         ensures { IsTrue result ↔ Alike (summary_record self.now) (summary_record other.now) }
     {

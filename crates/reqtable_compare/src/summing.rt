@@ -18,10 +18,10 @@ use reqtable_requirements::Line;
 use reqtable_table::{Case, Table};
 use std::alloc::{AllocError, Global};
 
-/// The cases that a table has of a package, by what these lines of its list require. A package that the list
-/// doesn't name has one, without lines, that always holds.
+/// What each case of a package in a table requires, by the lines of its list. A package that isn't in the
+/// list has one case, which is without lines and always holds.
 ///
-/// A case of n lines takes O(n log m) steps to find them among m, and O(n log n) comparisons of extras.
+/// A case of n lines needs O(n log m) steps to find them among m lines, and O(n log n) comparisons of extras.
 pub(crate) fn summaries<'a>(
     alloc: Global,
     lines: &[Line],
@@ -38,7 +38,7 @@ pub(crate) fn summaries<'a>(
     }
 }
 
-/// The one case without lines.
+/// The single case, without lines, of a package that a list doesn't name.
 fn nothing<'a>(alloc: Global) -> Result<Vec<Summary<'a>>, AllocError>
     ensures { IfOk result (λ found. AreSummed [] None (map summary_record found.items)) }
 {
@@ -84,7 +84,7 @@ fn summary<'a>(alloc: Global, lines: &[Line], case: &'a Case) -> Result<Summary<
     })
 }
 
-/// The extras of the lines with these numbers.
+/// The extras of the lines with these numbers, line by line.
 fn lists_of<'a>(
     alloc: Global,
     lines: &'a [Line],

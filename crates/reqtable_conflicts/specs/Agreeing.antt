@@ -13,12 +13,12 @@ use Rattle.reqtable_requirements.specs.declared.requirements.Line.{Line}
 use Rattle.reqtable_table.specs.Given.{is_under}
 use Rattle.reqtable_packages.specs.Packages.{HasRoom, lines_under}
 
--- some point is in the ranges of all that these lines ask for
+-- some point is in the ranges of all specifiers of these lines
 abbrev pub Meet : List Line → Type 0
 Meet lines =
     ((p : Point VersionRecord) → all_hold (map range_of (flat_map specifiers_in lines)) p ≡ false) → ⊥
 
--- lines that agree, so few that all sets of them are within the limit
+-- lines agree, and are so few that the number of their subsets is within the limit
 pub record Agree (limit : ℕ) (lines : List Line) : Type 0 where
   pub few : HasRoom limit (length lines)
   pub meet : Meet lines

@@ -1,4 +1,4 @@
--- The conflicts that a list's lines have.
+-- The conflicts of a list's lines.
 use Rattle.std.specs.Prelude.{◌≡◌, ◌<◌, ℕ, Bool, false, List, [], ◌∷◌, length, map, filter}
 use Rattle.std.specs.Prelude.{Some, Result, Ok, Err}
 use Rattle.std.specs.List.{AllByRecursion}
@@ -19,7 +19,7 @@ use Rattle.reqtable_table.specs.declared.table.TableError.TheVariants.{TooManyCa
 use Rattle.reqtable_table.specs.Kept.{KeptCase}
 use Rattle.reqtable_conflicts.specs.declared.contradicting.Conflict.{Conflict}
 
--- some lines of a package, by their numbers, and whether some specifier of them has a pre-release
+-- lines of a package, by their numbers, and whether some specifier of them names a pre-release
 pub record ConflictRecord : Type 0 where
   pub name : List ℕ
   pub numbers : List ℕ
@@ -29,18 +29,18 @@ abbrev pub conflict_record : Conflict → ConflictRecord
 conflict_record found =
     record { name = found.package; numbers = found.lines.items; prerelease = found.pre }
 
--- those of a package, in their order
+-- the conflicts of a package, in their order
 abbrev pub told_under : List ℕ → List ConflictRecord → List (List ℕ × Bool)
 told_under name found = map (λ c. (c.numbers, c.prerelease)) (filter (λ c. bytes_eq name c.name) found)
 
--- none stands behind one of a later name
+-- no conflict comes after one of a later name
 abbrev pub StandByName : List ConflictRecord → Type 0
 StandByName [] = Unit {0}
 StandByName (c ∷ found) =
     AllByRecursion (λ other. slice_cmp nat_cmp other.name c.name ≡ Less → ⊥) found × StandByName found
 
--- what is found in some lines: the conflicts of each package, by the packages' names; or the first package by
--- name that has more cases than the limit; or want of memory
+-- the conflicts that are found in some lines: those of each package, in the order of the packages' names; or
+-- the first package by name that has more cases than the limit; or out of memory
 abbrev pub FindsConflicts : {X : Type 0} → (X → List ConflictRecord) → ℕ → List LineRecord
     → Result X TableError → Type 0
 FindsConflicts view limit said (Ok found) =
@@ -49,7 +49,7 @@ FindsConflicts view limit said (Ok found) =
 FindsConflicts view limit said (Err (TooManyCases name)) = IsFirstTooMany limit said name
 FindsConflicts view limit said (Err Memory) = Unit {0}
 
--- a case of some line with a range without any point
+-- a case has lines and a range without any point
 pub record HasNoPoint (case : KeptCase) : Type 0 where
   pub some : 0 < length case.numbers
   pub set : List (Point VersionRecord)

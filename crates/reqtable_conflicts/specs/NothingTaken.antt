@@ -1,4 +1,4 @@
--- What the laws say of conflicts: where just their lines apply, no plain version is taken.
+-- What the laws state of conflicts: where just their lines apply, they accept no plain version.
 use Rattle.std.specs.Prelude.{◌≡◌, ℕ, false, List, All, map, filter, Ok}
 use Rattle.std.specs.List.{list_all, AllZip}
 use Rattle.pep440_version.specs.Record.{VersionRecord}
@@ -18,29 +18,30 @@ use Rattle.reqtable_requirements.specs.Asks.{applies, lines_of, asks_of}
 use Rattle.reqtable_cases.specs.Requires.{asked_of}
 use Rattle.reqtable_conflicts.specs.Contradictions.{ConflictRecord, FindsConflicts}
 
--- of the conflict's package just its lines apply
+-- of the conflict's package just its lines apply under a valuation
 abbrev pub ApplyAlone : Valuation → List LineRecord → ConflictRecord → Type 0
 ApplyAlone v said conflict =
     map (λ line. line.number) (filter (applies v) (lines_of conflict.name said)) ≡ conflict.numbers
 
--- they do somewhere
+-- just the conflict's lines apply under some valuation
 abbrev pub ApplySomewhere : List LineRecord → ConflictRecord → Type 0
 ApplySomewhere said conflict = (v : Valuation) × ApplyAlone v said conflict
 
--- wherever they do, no plain version is taken by all that is asked of the package
+-- wherever just the conflict's lines apply, the requirements on the package accept no plain version together
 abbrev pub TakesNoPlain : List LineRecord → ConflictRecord → Type 0
 TakesNoPlain said conflict =
     (v : Valuation) (version : VersionRecord) → ApplyAlone v said conflict → IsPlain version →
     list_all (ask_takes version) (asked_of conflict.name v said) ≡ false
 
--- wherever they do, the package's row says that nothing is taken of plain candidates
+-- wherever just the conflict's lines apply, the package's row has the outcome `Nothing`, if all candidates
+-- are plain
 abbrev pub HasNothing : List LineRecord → ConflictRecord → Type 0
 HasNothing said conflict =
     (v : Valuation) (admits : Admits) (candidates : List Candidate) (row : RowRecord) →
     ApplyAlone v said conflict → All (λ candidate. IsPlain candidate.version) candidates →
     IsRow admits (asks_of v said) candidates row → row.name ≡ conflict.name → row.outcome ≡ Nothing
 
--- whatever conflicts are found in requirements, each is so
+-- whatever conflicts are found in requirements, this holds of each
 abbrev pub EachFound : (List LineRecord → ConflictRecord → Type 0) → Type 0
 EachFound IsSo =
     (vars : Variables) (nodes : List NodeRecord) (requirements : List Line) (said : List LineRecord)

@@ -1,14 +1,14 @@
--- Which cases of a table's packages are picked.
+-- Which cases of a table's packages are conflicts.
 use Rattle.std.specs.Prelude.{◌≡◌, ◌⊎◌, ◌++◌, ℕ, Bool, List, [], ◌∷◌, map, Option, Some, None}
 use Rattle.reqtable_table.specs.Cases.{cases_under}
 use Rattle.reqtable_table.specs.Kept.{KeptCase, KeptPackage}
 use Rattle.reqtable_conflicts.specs.Contradictions.{ConflictRecord, HasNoPoint}
 
--- what is told of a case: the numbers of its lines, and whether some specifier of them has a pre-release
+-- the record of a case: the numbers of its lines, and whether some specifier of them names a pre-release
 abbrev pub told : KeptCase → List ℕ × Bool
 told case = (case.numbers, case.prerelease)
 
--- just those of some cases that have no point
+-- the records of exactly those cases that have lines and no point
 abbrev pub Picks : List KeptCase → List (List ℕ × Bool) → Type 0
 Picks [] picked = picked ≡ []
 Picks (case ∷ cases) picked =
@@ -18,7 +18,7 @@ Picks (case ∷ cases) picked =
 abbrev pub named : List ℕ → List ℕ × Bool → ConflictRecord
 named name one = record { name = name; numbers = one.0; prerelease = one.1 }
 
--- they are added to what was found
+-- the records of a package's conflicts are appended to what was found
 abbrev pub AddsPicked : List ℕ → List KeptCase → List ConflictRecord → List ConflictRecord → Type 0
 AddsPicked name cases old new =
     (picked : List (List ℕ × Bool)) × Picks cases picked × (new ≡ old ++ map (named name) picked)
@@ -27,7 +27,7 @@ abbrev pub PicksOf : Option (List KeptCase) → List (List ℕ × Bool) → Type
 PicksOf None picked = picked ≡ []
 PicksOf (Some cases) picked = Picks cases picked
 
--- those of a table's packages of some names, one package after another
+-- the conflicts of a table's packages with some names, one package after another
 abbrev pub FoundFor : List KeptPackage → List (List ℕ) → List ConflictRecord → Type 0
 FoundFor table [] found = found ≡ []
 FoundFor table (name ∷ names) found =

@@ -26,29 +26,39 @@ use reqtable_table::{Case, Table, TableError};
 use std::alloc::{AllocError, Global};
 use version_ranges::Ranges;
 
-/// Some lines of a package that apply together, and alone, under some valuation of markers, without any
-/// version that all of them could take.
+/// Lines of a package that contradict each other: under some valuation of markers they are all its lines that
+/// apply, and no plain version (one without a local part that is no post-release) is accepted by all of them.
 #[derive(Debug, PartialEq, Eq, Drop)]
 pub struct Conflict {
     pub package: PackageName,
-    /// The numbers of the lines in their text, from 1, which rise.
+    /// The numbers of the lines in their text, from 1, in rising order.
     pub lines: Vec<usize>,
-    /// Whether a specifier of these lines has a pre-release or developmental release (PEP 440, "Handling of
+    /// Whether a specifier of these lines names a pre-release or developmental release (PEP 440, "Handling of
     /// pre-releases").
     pub pre: bool,
 }
 
-/// The lines of each package that contradict each other: its cases of some line whose specifiers have no
-/// version in common, not even one between two that could be written (PEP 440, "Version specifiers"). A case
-/// of a line with a URL, with `===`, or with `<` or `>` and a post-release is none.
+/// The lines of each package that contradict each other: for each of its cases that has lines and whose
+/// specifiers' ranges (PEP 440, "Version specifiers") have an empty intersection, its lines.
 ///
-/// They stand by the names of their packages, those of a package in the order of `Table::cases`. A package
-/// that has more cases than the limit is refused, the first by name.
+/// No plain version, one without a local part that is no post-release, is accepted by all lines of a
+/// conflict. Other versions may be: `torch==2.0+cu118` and `torch<=2.0` are listed, and both accept
+/// 2.0+cu118. A case is left out if a line of it has a URL, `===`, or `<` or `>` with a post-release, if a
+/// range would need a number past 64 bits, or if the intersection still holds a point, even one between two
+/// versions.
 ///
-/// n lines take O(n log n) comparisons of names, and the ranges of each package's lines together. A package
-/// whose lines all have some point in common has no conflict, and no case of it is made, where its n lines
-/// can't have more cases than the limit, 2^n <= limit. The lines of all other packages are copied, and take
-/// what `Table::build` does.
+/// The conflicts are in the order of the names of their packages, those of a package in the order of
+/// `Table::cases`.
+///
+/// n lines need O(n log n) comparisons of names, and the intersection of the ranges of each package's lines.
+/// A package all of whose lines have some point in common has no conflict, and its cases are not built, if
+/// its n lines can't have more cases than the limit, 2^n <= limit. The lines of all other packages are
+/// copied, and cost what `Table::build` does.
+///
+/// # Errors
+///
+/// `TableError::TooManyCases` for the first package by name that has more cases than `limit`.
+/// `TableError::Memory` when memory runs out.
 pub fn conflicts(
     alloc: Global,
     requirements: &Requirements,
@@ -69,7 +79,7 @@ pub fn conflicts(
     Ok(found)
 }
 
-/// Those of the packages of these names, one package after another.
+/// The conflicts of the packages with these names, one package after another.
 fn conflicts_in(
     alloc: Global,
     table: &Table,
@@ -88,7 +98,7 @@ fn conflicts_in(
     Ok(found)
 }
 
-/// Adds those of a package's cases that are conflicts.
+/// Appends those of a package's cases that are conflicts.
 fn add_conflicts(
     alloc: Global,
     found: &mut Vec<Conflict>,
@@ -124,7 +134,7 @@ fn push_conflict(
     Ok(())
 }
 
-/// Whether the case has a line, and a range without any point.
+/// Whether the case has a line, and an empty range.
 #[tactic(auto, using(crate::proofs::Picked::has_none))]
 fn is_conflict(case: &Case) -> bool
     ensures { IsTrue result ↔ HasNoPoint (case_record case.now) }
@@ -135,7 +145,7 @@ fn is_conflict(case: &Case) -> bool
     }
 }
 
-/// Whether no point is in a range, not even one between two versions.
+/// Whether a range is empty: no point is in it, not even one between two versions.
 pub(crate) fn holds_nothing(range: &Ranges<Version>) -> bool
     ensures { IsTrue result ↔ ((p : Point VersionRecord) → holds_at version_cmp range.now p ≡ false) }
 {

@@ -1,4 +1,7 @@
 //! The packages whose lines may contradict each other.
+//!
+//! Lines that all have some point in common conflict nowhere, so no case of theirs is made, where their
+//! number excludes too many cases (`has_room`). Most packages of a list have one line.
 
 ghost use Rattle.std.specs.Prelude.{◌≡◌, ◌++◌, ℕ, false, true, List, map, flat_map, IfOk, OnOk, IsTrue};
 ghost use Rattle.std.specs.List.{list_any};
@@ -21,11 +24,11 @@ use reqtable_requirements::Line;
 use std::alloc::{AllocError, Global};
 
 /// The names of the packages whose lines may contradict each other, each once and in the order of their
-/// bytes. All lines of another package have some point in common, so that any of them have; and they are so
-/// few that no sets of them can be more than the limit.
+/// bytes. All lines of any other package have some point in common, and so do any of them; and they are so
+/// few that the number of their subsets is within the limit.
 ///
-/// n lines take O(n log n) comparisons of names. For a package's m specifiers its range takes O(m log m)
-/// comparisons of versions, and none is made where its n lines could have more cases than the limit.
+/// n lines need O(n log n) comparisons of names. The range of a package's m specifiers needs O(m log m)
+/// comparisons of versions, and isn't built if its n lines could have more cases than the limit.
 pub(crate) fn doubtful_packages<'a>(
     alloc: Global,
     lines: &'a [Line],
@@ -38,7 +41,7 @@ pub(crate) fn doubtful_packages<'a>(
     doubtful_among(alloc, &names, &groups, limit)
 }
 
-/// Those of some names whose lines don't agree, or aren't known to.
+/// Those of some names whose lines aren't known to agree.
 fn doubtful_among<'a>(
     alloc: Global,
     names: &[&'a PackageName],
@@ -63,7 +66,7 @@ fn doubtful_among<'a>(
     Ok(doubtful)
 }
 
-/// Whether the lines of a package are found to agree.
+/// Whether the lines of a package are known to agree.
 fn are_known_to_agree(
     alloc: Global,
     groups: &Groups<'_>,
@@ -78,7 +81,7 @@ fn are_known_to_agree(
     }
 }
 
-/// Whether lines of a package agree, and are so few that all sets of them are within the limit.
+/// Whether the lines of a package agree, and are so few that the number of their subsets is within the limit.
 fn agree(alloc: Global, lines: &[&Line], limit: u64) -> Result<bool, AllocError>
     ensures { IfOk result (λ agree. IsTrue agree → Agree limit (lent lines.now)) }
 {
@@ -88,8 +91,8 @@ fn agree(alloc: Global, lines: &[&Line], limit: u64) -> Result<bool, AllocError>
     meet(alloc, lines)
 }
 
-/// Whether some point is in the ranges of all that the lines ask for. Not known where one of their specifiers
-/// has no range.
+/// Whether some point is in the ranges of all specifiers of the lines. `false` too if one of their specifiers
+/// has no range that decides it.
 fn meet(alloc: Global, lines: &[&Line]) -> Result<bool, AllocError>
     ensures { IfOk result (λ meet. IsTrue meet → Meet (lent lines.now)) }
 {
@@ -100,7 +103,7 @@ fn meet(alloc: Global, lines: &[&Line]) -> Result<bool, AllocError>
     }
 }
 
-/// The specifiers of all these lines.
+/// References to the specifiers of all these lines.
 fn members_of<'a>(
     alloc: Global,
     lines: &[&'a Line],
@@ -114,7 +117,7 @@ fn members_of<'a>(
     Ok(members)
 }
 
-/// The specifiers that a line asks for; none where it asks for any version or for a URL.
+/// The specifiers of a line; none if it accepts any version or requires a URL.
 fn specifiers_of<'a>(line: &'a Line) -> &'a [VersionSpecifier]
     ensures { result.now ≡ specifiers_in line.now }
 {

@@ -1,4 +1,4 @@
--- The lines of a text by the packages that they are of.
+-- The lines of a text, grouped by package.
 use Rattle.std.specs.Prelude.{◌≡◌, ◌⊎◌, ℕ, Bool, true, false, List, [], ◌∷◌, ◌++◌, map, filter, length}
 use Rattle.std.specs.Prelude.{flat_map, Option, Some, None, if◌then◌else◌}
 use Rattle.std.specs.List.{list_any, dedup}
@@ -34,7 +34,7 @@ given_by line = record {
 abbrev pub name_in : Line → List ℕ
 name_in line = line.requirement.name
 
--- the two together
+-- a line with its package's name
 abbrev pub named_by : Line → NamedGiven
 named_by line = record { name = name_in line; given = given_by line }
 
@@ -55,18 +55,18 @@ lines_under name groups = flat_map (λ g. if bytes_eq name g.name then g.lines.i
 abbrev pub lines_in : List Group → List Given
 lines_in groups = flat_map (λ g. g.lines.items) groups
 
--- lines by their packages, none more than once
+-- lines grouped by package, each package once
 pub record AreGrouped (lines : List Line) (groups : List Group) : Type 0 where
   pub rising : IsStrictlySortedBy (slice_cmp nat_cmp) (group_names groups)
   pub named : (name : List ℕ) → list_any (bytes_eq name) (group_names groups) ≡ list_any (is_under name) lines
   pub each : (name : List ℕ) → lines_under name groups ≡ map given_by (filter (is_under name) lines)
   pub all : length (lines_in groups) ≡ length lines
 
--- a line beside a name is of the package
+-- a line with a name is of the package
 abbrev pub is_beside : List ℕ → NamedGiven → Bool
 is_beside name line = bytes_eq name line.name
 
--- lines as they come, those that follow one of their own package with it
+-- groups of the lines so far: lines that follow one of their own package are in its group
 pub record AreSoFar (lines : List NamedGiven) (groups : List Group) : Type 0 where
   pub names : group_names groups ≡ dedup bytes_eq (map (λ line. line.name) lines)
   pub named : (q : List ℕ) → list_any (bytes_eq q) (group_names groups) ≡ list_any (is_beside q) lines
@@ -75,14 +75,14 @@ pub record AreSoFar (lines : List NamedGiven) (groups : List Group) : Type 0 whe
 
 -- ---- one more line
 
--- as a group of its own
+-- the line is a new group of its own
 pub record IsNewGroup (name : List ℕ) (line : Given) (old new : List Group) : Type 0 where
   pub one : Group
   pub named : one.name ≡ name
   pub lines : one.lines.items ≡ line ∷ []
   pub grown : new ≡ old ++ one ∷ []
 
--- in the last group, which is of its package
+-- the line is added to the last group, which is of its package
 pub record IsInLast (name : List ℕ) (line : Given) (old new : List Group) : Type 0 where
   pub front : List Group
   pub last : Group

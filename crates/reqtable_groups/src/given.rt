@@ -1,4 +1,4 @@
-//! The lines of a text, as a table takes them.
+//! The lines of a text, as a table needs them.
 
 ghost use Rattle.std.specs.Prelude.{◌≡◌};
 ghost use Rattle.reqtable_groups.specs.Given.{named_by};
@@ -10,7 +10,7 @@ use pep508_tree::MarkerTree;
 use reqtable_requirements::Line;
 use std::alloc::Global;
 
-/// A line, whose specifiers aren't counted yet.
+/// A line with the parts that a table needs, without its name and URL.
 #[derive(Drop)]
 pub struct Given {
     /// The line's number in its text.
@@ -18,18 +18,18 @@ pub struct Given {
     pub extras: Vec<ExtraName>,
     pub marker: MarkerTree,
     pub is_url: bool,
-    /// None where the line asks for any version or for a URL.
+    /// The specifiers; none if the line accepts any version or requires a URL.
     pub specifiers: VersionSpecifiers,
 }
 
-/// A line beside the name of its package.
+/// A line with the name of its package.
 #[derive(Drop)]
 pub(crate) struct NamedGiven {
     pub(crate) name: PackageName,
     pub(crate) given: Given,
 }
 
-/// A line without its URL, beside the name of its package. Takes no memory.
+/// A line without its URL, with the name of its package. Allocates no memory.
 pub(crate) fn given_of(alloc: Global, line: Line) -> NamedGiven
     ensures { result ≡ named_by line }
 {

@@ -1,4 +1,4 @@
-//! The lines of a text by the packages that they are of.
+//! The lines of a text, grouped by package.
 
 ghost use Rattle.std.specs.Prelude.{◌≡◌, ◌∷◌, ◌++◌, [], map, IfOk, OnOk};
 ghost use Rattle.reqtable_groups.specs.Given.{AreGrouped, AreSoFar, IsAdded, IsNewGroup, named_by};
@@ -8,14 +8,19 @@ use pep508_name::PackageName;
 use reqtable_requirements::Line;
 use std::alloc::{AllocError, Global};
 
-/// The lines of a package, in their order.
+/// A package's name, and its lines in their order.
 #[derive(Drop)]
 pub struct Group {
     pub name: PackageName,
     pub lines: Vec<Given>,
 }
 
-/// The lines by their packages, the packages by their names. n lines take O(n log n) comparisons of names.
+/// The lines grouped by package, the packages in the order of their names. n lines need O(n log n)
+/// comparisons of names.
+///
+/// # Errors
+///
+/// `AllocError` when memory runs out.
 pub fn grouped(alloc: Global, lines: Vec<Line>) -> Result<Vec<Group>, AllocError>
     ensures { IfOk result (λ groups. AreGrouped lines.items groups.items) }
 {
@@ -24,7 +29,7 @@ pub fn grouped(alloc: Global, lines: Vec<Line>) -> Result<Vec<Group>, AllocError
     cut(alloc, named)
 }
 
-/// The lines without their URLs, which are much smaller to sort, in their order.
+/// The lines in their order, without their URLs, so that what is sorted is much smaller.
 fn named_lines(alloc: Global, lines: Vec<Line>) -> Result<Vec<NamedGiven>, AllocError>
     ensures { IfOk result (λ named. named.items ≡ map named_by lines.items) }
 {
@@ -35,7 +40,7 @@ fn named_lines(alloc: Global, lines: Vec<Line>) -> Result<Vec<NamedGiven>, Alloc
     Ok(named)
 }
 
-/// The groups of lines that stand by the names of their packages.
+/// The groups of lines that are sorted by the names of their packages.
 fn cut(alloc: Global, lines: Vec<NamedGiven>) -> Result<Vec<Group>, AllocError>
     ensures { IfOk result (λ groups. AreSoFar lines.items groups.items) }
 {
@@ -47,7 +52,7 @@ fn cut(alloc: Global, lines: Vec<NamedGiven>) -> Result<Vec<Group>, AllocError>
     Ok(groups)
 }
 
-/// Adds a line to the last group, where that is of its package, or else as a group of its own.
+/// Adds a line to the last group, if that is of its package, or otherwise as a new group.
 fn add(
     alloc: Global,
     groups: &mut Vec<Group>,
@@ -70,7 +75,7 @@ fn add(
     }
 }
 
-/// Adds a group of one line.
+/// Appends a group of one line.
 fn push(
     alloc: Global,
     groups: &mut Vec<Group>,

@@ -1,4 +1,4 @@
-//! The lines of a requirements text by the packages that they are of.
+//! The lines of a requirements text, grouped by package.
 #![tactic(auto)]
 
 mod given;

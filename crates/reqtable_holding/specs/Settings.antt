@@ -1,5 +1,4 @@
--- Where lines are asked whether they apply: the nodes of an interner, and the valuation of an environment
--- with extras.
+-- Where markers are evaluated: the nodes of an interner, and the valuation of an environment with extras.
 use Rattle.std.specs.Prelude.{List}
 use Rattle.pep508_diagram.specs.Question.{Valuation}
 use Rattle.pep508_evaluation.specs.Valuations.{valuation_of}

@@ -7,7 +7,7 @@ use Rattle.reqtable_holding.specs.declared.slots.Slots.{Slots}
 abbrev pub count : Slots → ℕ
 count slots = btree_map_len slots.places
 
--- a place that has a number keeps it, and one that has none gets the next
+-- a place that has a number keeps it, and a new one gets the next
 abbrev pub IsSlotBy : Option ℕ → ℕ → Slots → Slots → ℕ → Type 0
 IsSlotBy (Some was) place old new slot = (slot ≡ was) × (new ≡ old)
 IsSlotBy None place old new slot =

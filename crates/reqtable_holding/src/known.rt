@@ -1,4 +1,9 @@
-//! What markers were found to say.
+//! A cache of which markers hold.
+//!
+//! A line of a table has the number of its marker next to its tree, and what the marker says in an
+//! environment is kept under that number. Numbers only say where to look: an entry names its place in the
+//! interner, so no proof above depends on which marker has which number, and a marker that is not there is
+//! evaluated. The row of one package (`Table::row_among`) keeps nothing, since a package has few lines.
 
 ghost use Rattle.std.specs.Prelude.{◌≡◌, ◌<◌, ℕ, [], length, Some, None, get_or, set, IfOk};
 ghost use Rattle.version_ranges.specs.Turns.{flips};
@@ -11,14 +16,14 @@ use pep508_tree::MarkerTree;
 use std::alloc::{AllocError, Global};
 use std::marker::Model;
 
-/// What is known of the trees at a place of an interner: whether the one holds that isn't negated.
+/// A cached truth: whether the tree that isn't negated, of the trees at this place of an interner, holds.
 #[derive(Clone, Copy)]
 pub struct Said {
     pub place: usize,
     pub holds: bool,
 }
 
-/// What markers were found to say in one environment with extras, by their slots.
+/// A cache of which markers hold in one environment with extras, by their slots.
 #[derive(Drop)]
 pub struct Known {
     said: Vec<Option<Said>>,
@@ -34,7 +39,7 @@ impl Model for Known {
 }
 
 impl Known {
-    /// Nothing is known, and nothing will be kept. Takes no memory.
+    /// A cache without room: nothing is known, and nothing will be kept. Allocates no memory.
     pub fn nothing(alloc: Global) -> Known
         ensures { result ≡ [] }
     {
@@ -43,7 +48,11 @@ impl Known {
         }
     }
 
-    /// Nothing is known yet, and there is room for what markers of so many slots say.
+    /// An empty cache with room for `slots` markers.
+    ///
+    /// # Errors
+    ///
+    /// `AllocError` when memory runs out.
     pub fn new(alloc: Global, slots: usize) -> Result<Known, AllocError>
         ensures { IfOk result (λ known. (slot : ℕ) → get_or known slot None ≡ None) }
     {
@@ -52,8 +61,9 @@ impl Known {
         Ok(Known { said })
     }
 
-    /// Whether a marker holds: as it is known at its slot, or else evaluated, and known there from then on
-    /// where there is room. Markers of one slot are told apart by their places, so each is right.
+    /// Whether a marker holds: the cached truth of its slot, or otherwise evaluated, and cached if the slot
+    /// exists. A cached truth also has the marker's place, so that markers with a common slot aren't
+    /// confused.
     pub fn holds(&mut self, setting: &Setting<'_>, slot: usize, marker: MarkerTree) -> bool
         requires made { IsTree (nodes_in setting.now) marker }
         requires known { AreKnown (nodes_in setting.now) (valuation_in setting.now) self.old }
@@ -71,7 +81,7 @@ impl Known {
         truth
     }
 
-    /// What is known at a slot of the trees at a place.
+    /// The cached truth of the tree at `place` that isn't negated, if the slot has one.
     fn truth_at(&self, slot: usize, place: usize) -> Option<bool>
         ensures { result ≡ truth_at (get_or self.now slot None) place }
     {
@@ -93,7 +103,7 @@ impl Known {
         }
     }
 
-    /// Keeps what is said at a place, where there is the slot.
+    /// Caches the truth of the tree at a place, if the slot exists.
     fn keep(&mut self, slot: usize, place: usize, truth: bool)
         ensures { self.new ≡ set self.old slot (Some (record { place = place; holds = truth })) }
     {
@@ -106,7 +116,7 @@ impl Known {
     }
 }
 
-/// A truth, turned where the flag is set.
+/// A truth, negated if the flag is set.
 fn turned(turns: bool, truth: bool) -> bool
     ensures { result ≡ flips turns truth }
 {

@@ -1,4 +1,4 @@
-//! Which markers hold in an environment with extras, each of which is evaluated once.
+//! Which markers hold in an environment with extras; each marker is evaluated once.
 #![tactic(auto)]
 
 mod known;

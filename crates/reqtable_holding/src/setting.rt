@@ -10,7 +10,7 @@ use pep508_evaluation::MarkerTreeEvaluation;
 use pep508_name::ExtraName;
 use pep508_tree::{Interner, MarkerTree};
 
-/// An environment with extras, and the interner of the markers that are looked at in it.
+/// An environment with extras, and the interner of the markers that are evaluated in it.
 #[derive(Drop)]
 pub struct Setting<'a> {
     pub interner: &'a Interner,
@@ -19,6 +19,7 @@ pub struct Setting<'a> {
 }
 
 impl<'a> Setting<'a> {
+    /// The setting of an environment with extras, for the markers of an interner.
     pub fn new(
         interner: &'a Interner,
         environment: &'a MarkerEnvironment,
@@ -34,7 +35,7 @@ impl<'a> Setting<'a> {
         }
     }
 
-    /// Whether a marker holds.
+    /// Whether a marker holds in the environment with the extras.
     pub fn holds(&self, marker: MarkerTree) -> bool
         requires { IsTree (nodes_in self.now) marker }
         ensures { result ≡ holds (nodes_in self.now) marker (valuation_in self.now) }

@@ -8,15 +8,15 @@ use pep508_tree::MarkerTree;
 use std::alloc::{AllocError, Global};
 use std::collections::BTreeMap;
 
-/// Markers by their places in the interner, each with a number: the first has 0, and so on. A marker and its
-/// negation have one place.
+/// A number for each marker, by its place in the interner: the first has 0, the next 1, and so on. A marker
+/// and its negation have the same place.
 #[derive(Drop)]
 pub struct Slots {
     pub places: BTreeMap<usize, usize>,
 }
 
 impl Slots {
-    /// No marker has a number yet.
+    /// An empty numbering.
     pub fn new(alloc: Global) -> Slots
         ensures { IsEmpty result.places }
     {
@@ -25,15 +25,18 @@ impl Slots {
         }
     }
 
-    /// How many numbers there are.
+    /// The number of markers that have a number.
     pub fn len(&self) -> usize
         ensures { result ≡ count self.now }
     {
         self.places.len()
     }
 
-    /// The number of a marker, which is the next where it has none. Looks for it in as many steps as the
-    /// logarithm of the numbers.
+    /// The number of a marker; a new marker gets the next number. Needs O(log n) steps for n numbers.
+    ///
+    /// # Errors
+    ///
+    /// `AllocError` when memory runs out.
     pub fn slot_of(&mut self, marker: MarkerTree) -> Result<usize, AllocError>
         ensures { IfOk result (IsSlotOf marker.place self.old self.new) }
     {

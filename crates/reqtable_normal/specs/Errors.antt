@@ -1,4 +1,4 @@
--- What is told of a line that has no normal text.
+-- The messages for a line that has no normal text.
 use Rattle.std.specs.Prelude.{ℕ, List, ◌++◌, codes}
 use Rattle.std.specs.Fmt.{decimal}
 use Rattle.reqtable_normal.specs.declared.error.NormalCause.{NormalCause}

@@ -21,16 +21,16 @@ use Rattle.reqtable_normal.specs.declared.error.NormalCause.TheVariants as cause
 use Rattle.reqtable_normal.specs.declared.error.NormalError.{NormalError}
 use Rattle.reqtable_normal.specs.declared.error.NormalError.TheVariants.{Line, Memory}
 
--- ---- what is seen of a line
+-- ---- the record of a line
 
--- the diagram holds where the formula does, asks no question in vain, and has each version in its shortest
--- spelling: there is one such diagram
+-- the diagram holds where the formula does, has no needless question, and has each version in its shortest
+-- spelling: there is exactly one such diagram
 pub record IsDiagramOf (formula : Formula ExpressionRecord) (diagram : Diagram Question) : Type 0 where
   pub canonical : IsCanonical diagram
   pub short : HasShortVersions diagram
   pub means : (v : Valuation) → truth diagram v ≡ formula_holds (λ e. expression_holds e v) formula
 
--- what a line asks for, its specifiers by version, and the diagram of its marker
+-- what a line requires, its specifiers in the order of versions, and the diagram of its marker
 pub record NormalLine : Type 0 where
   pub front : Front
   pub diagram : Diagram Question
@@ -41,24 +41,24 @@ pub record IsNormalOf (line : LineRecord) (normal : NormalLine) : Type 0 where
 
 -- ---- which lines have no normal text
 
--- why a marker has none; one that always holds or never does asks no question
+-- the first cause for which a marker has no normal text; one that always or never holds has no question
 abbrev pub marker_fault : Diagram Question → Option NormalCause
 marker_fault diagram =
     if asks_any has_quote diagram then Some cause.SingleQuote
     else (if asks_any is_of_deprecated_key diagram then Some cause.DeprecatedKey
     else (if asks_any is_other_bound diagram then Some cause.Bound else None))
 
--- why a line has none: the first of its causes in this order
+-- the first cause for which a line has no normal text, in this order
 abbrev pub normal_fault : NormalLine → Option NormalCause
 normal_fault line = if has_url line.front then Some cause.Url else marker_fault line.diagram
 
--- the line has no fault
+-- the line has a normal text
 pub record IsFaultless (line : LineRecord) : Type 0 where
   pub normal : NormalLine
   pub is_normal : IsNormalOf line normal
   pub no_fault : normal_fault normal ≡ None
 
--- the first line with a fault has this number, and this one
+-- the first line without a normal text has this number, and this is the cause
 pub record IsFirstFault (said : List LineRecord) (number : ℕ) (cause : NormalCause) : Type 0 where
   pub front : List LineRecord
   pub line : LineRecord
@@ -76,7 +76,7 @@ abbrev pub never_holds : Diagram Question → Bool
 never_holds (Leaf b) = not b
 never_holds (Test q low high) = false
 
--- the lines whose markers sometimes hold
+-- the lines whose markers can hold
 abbrev pub kept : List NormalLine → List NormalLine
 kept lines = filter (λ line. not (never_holds line.diagram)) lines
 
@@ -86,14 +86,14 @@ line_text line = requirement_text line.front (marker_text line.diagram) ++ codes
 abbrev pub lines_text : List NormalLine → List ℕ
 lines_text lines = flat_map line_text (kept lines)
 
--- the normal text of lines, none of which has a fault
+-- a text is the normal one of lines, all of which have one
 pub record IsNormalText (said : List LineRecord) (text : List ℕ) : Type 0 where
   pub lines : List NormalLine
   pub are_normal : AllZip IsNormalOf said lines
   pub faultless : AllByRecursion (λ line. normal_fault line ≡ None) lines
   pub is_text : text ≡ lines_text lines
 
--- what is answered for lines: their normal text, or the first that has none and why, or want of memory
+-- the result for lines: their normal text, or the first that has none with the cause, or out of memory
 abbrev pub Normalizes : {Y : Type 0} → List LineRecord → Result (String Y) NormalError → Type 0
 Normalizes said (Ok text) = IsNormalText said (string_bytes text)
 Normalizes said (Err (Line number fault)) = IsFirstFault said number fault

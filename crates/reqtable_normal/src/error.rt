@@ -10,18 +10,19 @@ use std::fmt;
 /// Why a line has no normal text.
 #[derive(Clone, Copy, Debug, PartialEq, Eq)]
 pub enum NormalCause {
-    /// It asks for a URL.
+    /// The line requires a URL.
     Url,
-    /// A text of its marker has a single quote, and so could stand between no single quotes.
+    /// A string in its marker has a single quote, so it can't be written in single quotes.
     SingleQuote,
-    /// Its marker asks of a key by an old name, as `os.name`, which prints as the new one.
+    /// Its marker depends on a key with a deprecated name, as `os.name`, which prints under its new name.
     DeprecatedKey,
-    /// Its marker has a version that is more than release numbers of epoch 0, which can't be written in it.
+    /// Its marker depends on a version that is more than release numbers of epoch 0, which can't be printed
+    /// in a marker.
     Bound,
 }
 
 impl NormalCause {
-    /// The cause in two words or one, as `single quote`.
+    /// The cause in one or two words, as `single quote`.
     pub fn as_str(self) -> &'static str
         ensures { result.now ≡ cause_text self }
     {
@@ -48,7 +49,7 @@ impl fmt::Display for NormalCause {
 /// Why a requirement list has no normal text.
 #[derive(Debug, PartialEq, Eq, Drop)]
 pub enum NormalError {
-    /// The first line, by its number from 1, that has none.
+    /// The first line, by its number from 1, that has no normal text.
     Line { number: usize, cause: NormalCause },
     /// Memory ran out.
     Memory,

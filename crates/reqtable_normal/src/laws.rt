@@ -1,4 +1,4 @@
-//! Laws over the definitions. The functions do nothing: each one's contract is its law.
+//! Laws about normal texts. The functions do nothing: each one's contract is its law.
 
 ghost use Rattle.std.specs.Prelude.{◌≡◌, ◌↔◌, ℕ, List, Ok};
 ghost use Rattle.std.specs.List.{AllZip};
@@ -15,20 +15,20 @@ ghost use Rattle.reqtable_normal.specs.declared.error.NormalCause.{NormalCause};
 
 use reqtable_requirements::laws::requirements_are_their_lines;
 
-/// The lines of a text have one normal text at most.
+/// The lines of a text have at most one normal text.
 pub fn there_is_one_normal_text()
     ensures { (said : List LineRecord) (text other : List ℕ) →
         IsNormalText said text → IsNormalText said other → text ≡ other }
 {}
 
-/// And where they have one, none of them has a fault.
+/// Lines that have a normal text are without fault.
 pub fn what_has_a_normal_text_has_no_fault()
     ensures { (said : List LineRecord) (text : List ℕ) (number : ℕ) (cause : NormalCause) →
         IsNormalText said text → IsFirstFault said number cause → ⊥ }
 {}
 
-/// A normal text is read again, with whatever variables, as lines that ask for what those do of which it is
-/// the normal text; so it has their answers.
+/// A normal text can be read, with any variables, as lines that require what the original lines do; so both
+/// have the same answers.
 pub fn a_normal_text_reads_back()
     ensures read { (vars others : Variables) (bytes text : List ℕ) (said : List LineRecord) →
         requirements_of vars bytes ≡ Ok said → IsNormalText said text → ReadsAs others text said }
@@ -42,14 +42,15 @@ pub fn a_normal_text_reads_back()
     requirements_are_their_lines();
 }
 
-/// Lines that say the same in one order, those aside that never apply, have one normal text.
+/// Lists whose lines say the same in the same order, without those that never apply, have the same normal
+/// text.
 pub fn what_says_the_same_has_one_normal_text()
     ensures { (said others left right : List LineRecord) (text other : List ℕ) →
         LeavesOut said left → LeavesOut others right → AllZip SayAlike left right →
         IsNormalText said text → IsNormalText others other → text ≡ other }
 {}
 
-/// The normal text of a normal text is that text.
+/// The normal text of a normal text is that text itself.
 pub fn a_normal_text_is_its_own()
     ensures { (vars others : Variables) (bytes text : List ℕ) (said again : List LineRecord) →
         requirements_of vars bytes ≡ Ok said → IsNormalText said text →

@@ -1,4 +1,4 @@
-//! The normal text of a requirement list: one for all lists that say the same.
+//! The normal text of a requirement list: lists that say the same have the same one.
 #![tactic(auto)]
 
 mod error;

@@ -1,4 +1,8 @@
 //! The normal text of requirement lines.
+//!
+//! A marker's fault is looked for in its diagram, so whether a line has a normal text depends on what its
+//! marker means and not on how it is written. Lines keep their order: a line's text depends on that line
+//! alone, and is the print of its requirement.
 
 ghost use Rattle.std.specs.Prelude.{◌≡◌, ◌++◌, false, List, IfOk, OnOk, string_bytes};
 ghost use Rattle.std.specs.List.{AllZip};
@@ -25,17 +29,21 @@ use reqtable_requirements::{Line, Requirements};
 use std::alloc::{AllocError, Global};
 use std::fmt::Write;
 
-/// The normal text of a requirement list: for each line whose marker sometimes holds its name, extras and
-/// specifiers, the marker behind a `;` where it doesn't always hold, and a line feed.
+/// The normal text of a requirement list: for each line whose marker can hold, its name, extras and
+/// specifiers, the marker after a `;` unless it always holds, and a line feed.
 ///
-/// The interner is the one that the lines were read with. Lists that say the same have one normal text, and a
-/// normal text is read as what it was made of. The first line is refused that has no such text: one with a
-/// URL, whatever its marker; or one whose marker asks for a text with a single quote, for a key by an old
-/// name, or for a version that is more than release numbers of epoch 0. What a marker asks for is what its
-/// answer hangs on, and not what was written.
+/// `interner` is the one that the lines were read with. Lists that say the same have the same normal text,
+/// and a normal text can be read as what it was printed from.
 ///
-/// Looks at the nodes of each line's marker once, and writes its text straight behind the others. Takes
-/// memory for the text, and for what the print of one marker takes.
+/// Visits the nodes of each line's marker once, and writes its text directly after the others. Needs memory
+/// for the text, and for printing one marker.
+///
+/// # Errors
+///
+/// `NormalError::Line` for the first line without a normal text: one with a URL, whatever its marker; or one
+/// whose marker depends on a string with a single quote, a deprecated key, or a version that is more than
+/// release numbers of epoch 0. This is decided by what the marker's truth depends on, not by how it was
+/// written. `NormalError::Memory` when memory runs out.
 pub fn normal(
     alloc: Global,
     requirements: &Requirements,
@@ -53,7 +61,7 @@ pub fn normal(
     Ok(text)
 }
 
-/// Adds a line's text, or nothing where its marker never holds.
+/// Appends a line's text, or nothing if its marker never holds.
 #[tactic(auto, using(crate::proofs::Pushing::pushed, crate::proofs::Pushing::skipped))]
 fn push_line(
     alloc: Global,
@@ -84,7 +92,7 @@ fn never_holds(marker: MarkerTree, interner: &Interner) -> bool
     marker.is_false()
 }
 
-/// Adds a requirement's text and a line feed.
+/// Appends a requirement's text and a line feed.
 fn push_requirement(
     alloc: Global,
     text: &mut String,
@@ -100,7 +108,7 @@ fn push_requirement(
     writeln!(text, "{shown}")
 }
 
-/// Why a requirement has no normal text, if it has none.
+/// The cause for which a requirement has no normal text, or `None` if it has one.
 fn fault(
     alloc: Global,
     requirement: &Requirement,
@@ -117,7 +125,7 @@ fn fault(
     Ok(marker_fault(asked))
 }
 
-/// The first cause for which a marker that asks so has no normal text.
+/// The first cause for which a marker with these questions has no normal text.
 fn marker_fault(asked: Asked) -> Option<NormalCause>
     ensures { (diagram : Diagram Question) → asked ≡ asked_by diagram → result ≡ marker_fault diagram }
 {

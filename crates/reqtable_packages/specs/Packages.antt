@@ -14,19 +14,19 @@ use Rattle.reqtable_table.specs.Given.{is_under}
 abbrev pub lines_under : List ℕ → List Line → List Line
 lines_under name lines = filter (is_under name) lines
 
--- all sets of so many lines are within the limit
+-- the number of all subsets of `count` lines is within the limit
 abbrev pub HasRoom : ℕ → ℕ → Type 0
 HasRoom limit count = 2 ^ count ≤ limit
 
--- what is said of the packages of these names
+-- the records of the lines of these packages
 abbrev pub said_among : List (List ℕ) → List LineRecord → List LineRecord
 said_among names said = filter (λ line. list_any (bytes_eq line.front.name) names) said
 
--- ---- as the code has them
+-- ---- in the types of the code
 
 abbrev pub lent : List (Bor Line) → List Line
 lent lines = map (λ line. line.now) lines
 
--- lines by the names of their packages
+-- the lines under a name of lines grouped by package
 abbrev pub lines_at : {Y : Type 0} → BTreeMap (Bor (List ℕ)) (Vec (Bor Line) Y) → List ℕ → List Line
 lines_at groups name = option_map_or (λ lines. lent lines.items) (group_of groups name) []

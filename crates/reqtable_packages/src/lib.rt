@@ -1,5 +1,5 @@
-//! What the calls on whole lists begin with: the packages that lists name, their lines, and tables of some of
-//! them.
+//! The first steps of the calls on whole lists: the packages that lists name, their lines, and tables of some
+//! of them.
 #![tactic(auto)]
 
 mod names;

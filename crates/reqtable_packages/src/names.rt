@@ -12,9 +12,13 @@ use pep508_name::PackageName;
 use reqtable_requirements::Line;
 use std::alloc::{AllocError, Global};
 
-/// The names of the packages that a line of some list asks for, each once and in the order of their bytes.
+/// The names of the packages that the lines of any list require, each once and in the order of their bytes.
 ///
-/// n lines take O(n log n) comparisons of names, and memory for n places.
+/// n lines need O(n log n) comparisons of names, and memory for n references.
+///
+/// # Errors
+///
+/// `AllocError` when memory runs out.
 pub fn package_names<'a>(
     alloc: Global,
     lists: &[&'a [Line]],
@@ -31,7 +35,7 @@ pub fn package_names<'a>(
     Ok(names)
 }
 
-/// The names of all lines, list by list.
+/// References to the names of all lines, list by list.
 fn lent_names<'a>(alloc: Global, lists: &[&'a [Line]]) -> Result<Vec<&'a PackageName>, AllocError>
     ensures { IfOk result (λ names.
         map (λ name. name.now) names.items ≡ flat_map (λ list. names_of list.now) lists.now) }

@@ -1,4 +1,7 @@
 //! The lines of packages, and tables of some of them.
+//!
+//! `same`, `conflicts` and `normal` borrow their lists, so that one list can be given to all of them and
+//! judged too. The tables are made of copies, which cost a twentieth of what reading does.
 
 ghost use Rattle.std.specs.Prelude.{◌≡◌, ◌≤◌, ◌+◌, ◌*◌, ◌++◌, ◌∷◌, ℕ, List, [], length, map};
 ghost use Rattle.std.specs.Prelude.{IfOk, OnOk, IsTrue, ◌↔◌};
@@ -24,8 +27,12 @@ use std::collections::BTreeMap;
 /// The lines of a list, by the names of their packages.
 pub type Groups<'a> = BTreeMap<&'a str, Vec<&'a Line>>;
 
-/// The lines by their packages, those of a package in their order. n lines take O(n log n) comparisons of
+/// The lines grouped by package, those of a package in their order. n lines need O(n log n) comparisons of
 /// names.
+///
+/// # Errors
+///
+/// `AllocError` when memory runs out.
 pub fn by_package<'a>(alloc: Global, lines: &'a [Line]) -> Result<Groups<'a>, AllocError>
     ensures { IfOk result (λ groups. (q : List ℕ) → lines_at groups q ≡ lines_under q lines.now) }
 {
@@ -36,7 +43,7 @@ pub fn by_package<'a>(alloc: Global, lines: &'a [Line]) -> Result<Groups<'a>, Al
     Ok(groups)
 }
 
-/// Adds a line to its package's, behind those that are there.
+/// Adds a line at the end of its package's group.
 fn add<'a>(alloc: Global, groups: &mut Groups<'a>, line: &'a Line) -> Result<(), AllocError>
     ensures { OnOk result ((q : List ℕ) →
         lines_at groups.new q ≡ lines_at groups.old q ++ lines_under q (line.now ∷ [])) }
@@ -48,7 +55,7 @@ fn add<'a>(alloc: Global, groups: &mut Groups<'a>, line: &'a Line) -> Result<(),
     Ok(())
 }
 
-/// Whether all sets of so many lines are within the limit.
+/// Whether `count` lines have no more subsets than the limit: 2^count <= limit.
 #[tactic(auto, using(crate::proofs::Few::fewer, crate::proofs::Few::too_many))]
 pub fn has_room(limit: u64, count: usize) -> bool
     ensures { IsTrue result ↔ HasRoom limit count }
@@ -59,9 +66,14 @@ pub fn has_room(limit: u64, count: usize) -> bool
     }
 }
 
-/// The table of some packages of requirements that stay the caller's, by `Table::build` of a copy of their
-/// lines. The copy costs a twentieth of what reading these lines does, the table what `Table::build` does.
-/// The names rise.
+/// The table of some packages of borrowed requirements, by `Table::build` from a copy of their lines. The
+/// names are in rising order. The copy costs a twentieth of reading these lines, the table what
+/// `Table::build` does.
+///
+/// # Errors
+///
+/// `TableError::TooManyCases` for the first package by name that has more cases than `limit`.
+/// `TableError::Memory` when memory runs out.
 pub fn packages_table(
     alloc: Global,
     requirements: &Requirements,

@@ -1,4 +1,4 @@
--- The one range of many lists.
+-- The single range of many lists.
 use Rattle.std.specs.Prelude.{List, All}
 use Rattle.pep440_specifier.specs.Matching.{SpecifierRecord}
 use Rattle.reqtable_range.specs.declared.one.OneRange.{OneRange}
@@ -6,7 +6,7 @@ use Rattle.reqtable_range.specs.declared.sorting.Kind.TheVariants.{Simple, Plain
 use Rattle.reqtable_range.specs.Sorting.{IsOfKind, TakeAs}
 use Rattle.reqtable_range.specs.Together.{lent, IsShared}
 
--- the ranges of the simple and the plain ones of the members, these plain ones, and the single ones
+-- the ranges of the simple and of the plain ones of the specifiers, these plain ones, and the single ones
 pub record FindsOne (members : List SpecifierRecord) (one : OneRange) : Type 0 where
   pub simple_members : List SpecifierRecord
   pub are_simple : All (IsOfKind Simple) simple_members

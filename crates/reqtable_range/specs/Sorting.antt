@@ -1,4 +1,4 @@
--- Members by what a range tells of them.
+-- Specifiers by which versions their ranges decide.
 use Rattle.std.specs.Prelude.{◌≡◌, ◌&&◌, List, All}
 use Rattle.pep440_version.specs.Record.{VersionRecord}
 use Rattle.pep440_specifier.specs.Matching.{SpecifierRecord}
@@ -9,21 +9,21 @@ use Rattle.reqtable_range.specs.declared.sorting.Kind.TheVariants.{Simple, Plain
 use Rattle.reqtable_range.specs.declared.sorting.Sorted.{Sorted}
 use Rattle.reqtable_range.specs.Together.{lent, HasRange}
 
--- the range of a simple member tells of each version that texts say, that of a plain one of plain versions;
--- of a single member no range tells
+-- the range of a simple specifier decides each version that can be written, that of a plain one plain
+-- versions; the range of a single one decides none
 abbrev pub IsOfKind : Kind → SpecifierRecord → Type 0
 IsOfKind Simple member = HasRange member × IsSimple member
 IsOfKind Plain member = HasRange member × IsWithoutPosts member × (¬ (IsSimple member))
 IsOfKind Single member = ¬ (HasRange member × IsWithoutPosts member)
 
--- some members take a version together where these do
+-- specifiers accept a version together exactly if those of all three kinds do
 abbrev pub TakeAs : List SpecifierRecord → List SpecifierRecord → List SpecifierRecord
     → List SpecifierRecord → Type 0
 TakeAs members simple plain single =
     (version : VersionRecord) → matches_all members version
     ≡ (matches_all simple version && (matches_all plain version && matches_all single version))
 
--- members by their kinds
+-- specifiers by their kinds
 pub record SortsInto (members : List SpecifierRecord) (sorted : Sorted) : Type 0 where
   pub simple : All (IsOfKind Simple) (lent sorted.simple.items)
   pub plain : All (IsOfKind Plain) (lent sorted.plain.items)

@@ -1,4 +1,4 @@
--- What many lists of specifiers take together, and what a range of members is.
+-- What many lists of specifiers accept together, and the range of many specifiers.
 use Rattle.std.specs.Prelude.{◌≡◌, Bool, true, List, [], map, None, Ok}
 use Rattle.std.specs.Option.{is_some}
 use Rattle.std.specs.List.{list_all, flat_map}
@@ -10,15 +10,15 @@ use Rattle.pep440_specifier_list.specs.Lists.{matches_all}
 use Rattle.pep440_range.specs.Agreement.{IsSaid}
 use Rattle.pep440_range.specs.Ranges.{range_of, GivesAll}
 
--- the members of all lists
+-- the specifiers of all lists
 abbrev pub members_of : List (List SpecifierRecord) → List SpecifierRecord
 members_of lists = flat_map (λ list. list) lists
 
--- each list takes the version
+-- each list accepts the version
 abbrev pub all_take : List (List SpecifierRecord) → VersionRecord → Bool
 all_take lists candidate = list_all (λ list. matches_all list candidate) lists
 
--- the members that references lend
+-- the specifiers that are borrowed
 abbrev pub lent : List (Bor SpecifierRecord) → List SpecifierRecord
 lent members = map (λ member. member.now) members
 
@@ -28,14 +28,14 @@ pub record IsPlain (candidate : VersionRecord) : Type 0 where
   pub no_local : candidate.local ≡ []
   pub no_post : candidate.post ≡ None
 
--- a member has a range: no number at the end of 64 bits would have to be raised for it
+-- a specifier has a range: it needs no number past 64 bits
 abbrev pub HasRange : SpecifierRecord → Type 0
 HasRange member = is_some (range_of member) ≡ true
 
--- each member has one
+-- each specifier has a range
 abbrev pub HaveRanges : List SpecifierRecord → Type 0
 HaveRanges members = list_all is_some (map range_of members) ≡ true
 
--- each member has one, and a set holds just the points that are in all of them
+-- each specifier has a range, and a set is their intersection
 abbrev pub IsShared : List SpecifierRecord → List (Point VersionRecord) → Type 0
 IsShared members set = GivesAll (Ok set) (map range_of members)

@@ -1,4 +1,4 @@
-//! Laws over the definitions. The functions do nothing: each one's contract is its law.
+//! Laws about the range of many lists. The functions do nothing: each one's contract is its law.
 
 ghost use Rattle.std.specs.Prelude.{◌≡◌, ◌&&◌, List};
 ghost use Rattle.version_ranges.specs.Point.{At};
@@ -14,7 +14,7 @@ ghost use Rattle.reqtable_range.specs.Together.{members_of, all_take, lent, IsPl
 
 use pep440_range::laws::{ranges_agree_beside_posts, ranges_agree_everywhere};
 
-/// Each list takes a plain version exactly where both ranges hold it and each single member takes it.
+/// All lists accept a plain version exactly if both ranges contain it and each single specifier accepts it.
 pub fn range_tells_what_all_take()
     ensures { (lists : List (List SpecifierRecord)) (one : OneRange) (candidate : VersionRecord) →
         FindsOne (members_of lists) one → IsPlain candidate →
@@ -27,8 +27,8 @@ pub fn range_tells_what_all_take()
     ranges_agree_beside_posts();
 }
 
-/// Each list takes a version as texts say it exactly where the range of the simple members holds it without
-/// its local part and each member beside these takes it.
+/// All lists accept a version that can be written exactly if the range of the simple specifiers contains it
+/// without its local part, and each specifier of `beside` and each single one accepts it.
 pub fn simple_range_tells_what_all_take()
     ensures { (lists : List (List SpecifierRecord)) (one : OneRange) (candidate : VersionRecord) →
         FindsOne (members_of lists) one → IsSaid candidate →

@@ -1,5 +1,5 @@
-//! What many lists of specifiers take together: asked of one range, and of the few members that it can't
-//! tell.
+//! What many lists of specifiers accept together: decided by one range, and by the few specifiers that no
+//! range decides.
 #![tactic(auto)]
 
 pub mod laws;

@@ -1,4 +1,4 @@
-//! The one range of many lists, and what it tells of versions.
+//! The single range of many lists, and which versions it decides.
 
 ghost use Rattle.std.specs.Prelude.{◌≡◌, ◌↔◌, IsTrue, List, map, is_some, IfOk, IfSome};
 ghost use Rattle.version_ranges.specs.Point.{At};
@@ -22,27 +22,32 @@ use pep440_version::Version;
 use std::alloc::{AllocError, Global};
 use version_ranges::Ranges;
 
-/// The one range of many lists, and the members that are asked beside it.
+/// The single range of many lists, and the specifiers that are tested in addition to it.
 #[derive(Drop)]
 pub struct OneRange<'a> {
-    /// The range of those members whose range tells of each version, asked without its local part.
+    /// The range of those specifiers whose range decides each version, tested without its local part.
     pub simple: Ranges<Version>,
-    /// The range of those whose range tells of plain versions alone.
+    /// The range of those specifiers whose range decides only plain versions: without a local part, and no
+    /// post-releases.
     pub plain: Ranges<Version>,
-    /// These members themselves, which are asked of the versions that aren't plain.
+    /// The specifiers of `plain` themselves, which are tested for versions that aren't plain.
     pub beside: Vec<&'a VersionSpecifier>,
-    /// The members of which no range tells: each `===`, `<` or `>` beside a post-release, and what has no
-    /// range.
+    /// The specifiers that no range decides: each `===`, each `<` or `>` with a post-release, and those
+    /// without a range.
     pub single: Vec<&'a VersionSpecifier>,
 }
 
 impl<'a> OneRange<'a> {
-    /// Whether all lists take the version. There is an answer for each version that marks no end of a range,
-    /// and so for all that texts say.
+    /// Whether all lists accept the version. `None` for a version that marks an end of a range, which can't
+    /// be written.
     ///
-    /// With n members in both ranges that are O(log n) comparisons of versions; beside these each single
-    /// member is asked, and for a version that isn't plain each one of `beside`, up to the first that refuses
-    /// it. Takes memory for a copy of a version that has a local part, and where a `===` is asked.
+    /// With n specifiers in both ranges that are O(log n) comparisons of versions; in addition each single
+    /// specifier is tested, and for a version that isn't plain each one of `beside`, up to the first that
+    /// rejects it. Needs memory for a copy of a version with a local part, and to test `===`.
+    ///
+    /// # Errors
+    ///
+    /// `AllocError` when memory runs out.
     pub fn tells(&self, alloc: Global, version: &Version) -> Result<Option<bool>, AllocError>
         ensures taken { IfOk result (λ told. IfSome told (λ taken. (lists : List (List SpecifierRecord)) →
             FindsOne (members_of lists) self.now → taken ≡ all_take lists version.now)) }
@@ -72,7 +77,7 @@ impl<'a> OneRange<'a> {
         each_takes(alloc, &self.single, version)
     }
 
-    /// Whether the members of `beside` take the version: by their range, where that is plain.
+    /// Whether the specifiers of `beside` accept the version: by their range, if the version is plain.
     fn takes_beside(&self, alloc: Global, version: &Version) -> Result<bool, AllocError>
         ensures { IfOk result (λ taken. (members : List SpecifierRecord) → FindsOne members self.now →
             taken ≡ matches_all (lent self.now.beside.items) version.now) }
@@ -85,10 +90,14 @@ impl<'a> OneRange<'a> {
     }
 }
 
-/// The one range of the lists.
+/// The single range of the lists.
 ///
-/// Takes O(n log n) comparisons of versions for n members, and memory for the bounds and for places of
-/// members.
+/// Needs O(n log n) comparisons of versions for n specifiers, and memory for the bounds and for references to
+/// the specifiers.
+///
+/// # Errors
+///
+/// `AllocError` when memory runs out.
 pub fn one_range<'a>(
     alloc: Global,
     lists: &[&'a VersionSpecifiers],
@@ -106,7 +115,7 @@ pub fn one_range<'a>(
     })
 }
 
-/// Whether each member takes the version, asked up to the first that doesn't.
+/// Whether each specifier accepts the version; tests them up to the first that doesn't.
 fn each_takes(
     alloc: Global,
     members: &[&VersionSpecifier],
@@ -123,7 +132,7 @@ fn each_takes(
     Ok(true)
 }
 
-/// Whether the range holds the version without its local part.
+/// Whether the range contains the version without its local part.
 fn holds_public(
     alloc: Global,
     range: &Ranges<Version>,

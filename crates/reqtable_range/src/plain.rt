@@ -1,4 +1,4 @@
-//! Versions and specifiers of which a range tells what matching says.
+//! Versions and specifiers for which a range decides what matching does.
 
 ghost use Rattle.std.specs.Prelude.{◌↔◌, IsTrue};
 ghost use Rattle.pep440_range.specs.Agreement.{IsSaid, AgreesBesidePosts, IsWithoutPosts};
@@ -20,7 +20,7 @@ pub(crate) fn is_said(version: &Version) -> bool
     version.min().is_none() && version.max().is_none()
 }
 
-/// Whether the member agrees with its range at all plain versions.
+/// Whether the specifier agrees with its range at all plain versions.
 pub(crate) fn is_without_posts(member: &VersionSpecifier) -> bool
     ensures { IsTrue result ↔ IsWithoutPosts member.now }
 {

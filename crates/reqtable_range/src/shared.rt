@@ -1,4 +1,4 @@
-//! What the ranges of many members share.
+//! The intersection of the ranges of many specifiers.
 
 ghost use Rattle.std.specs.Prelude.{[], ◌∷◌, IfOk};
 ghost use Rattle.reqtable_range.specs.Together.{HasRange, HaveRanges, IsShared, lent};
@@ -9,10 +9,14 @@ use pep440_version::Version;
 use std::alloc::{AllocError, Global};
 use version_ranges::Ranges;
 
-/// What is in the ranges of all members.
+/// The intersection of the ranges of all specifiers; the full range if there are none.
 ///
-/// Ranges of halves of the members are cut with each other, so that n members take O(n log n) comparisons of
-/// versions. Takes memory for the bounds.
+/// Intersects the ranges of both halves, so that n specifiers need O(n log n) comparisons of versions. Needs
+/// memory for the bounds.
+///
+/// # Errors
+///
+/// `AllocError` when memory runs out.
 pub fn shared_range(
     alloc: Global,
     members: &[&VersionSpecifier],
@@ -32,7 +36,7 @@ pub fn shared_range(
     front.intersection(alloc, &back)
 }
 
-/// The range of a member that has one.
+/// The range of a specifier that has one.
 fn range_of(alloc: Global, member: &VersionSpecifier) -> Result<Ranges<Version>, AllocError>
     requires { HasRange member.now }
     ensures { IfOk result (IsShared (member.now ∷ [])) }

@@ -1,4 +1,4 @@
-//! Specifiers of which a range tells what matching says of each version.
+//! Specifiers whose range decides each version.
 
 ghost use Rattle.std.specs.Prelude.{◌↔◌, IsTrue};
 ghost use Rattle.pep440_range.specs.Agreement.{IsFinal, AgreesEverywhere, IsSimple};
@@ -7,7 +7,7 @@ use crate::plain::is_said;
 use pep440_specifier::{Operator, VersionSpecifier};
 use pep440_version::Version;
 
-/// Whether the member has no local part, and agrees with its range at all versions.
+/// Whether the specifier has no local part, and agrees with its range at all versions.
 pub(crate) fn is_simple(member: &VersionSpecifier) -> bool
     ensures { IsTrue result ↔ IsSimple member.now }
 {

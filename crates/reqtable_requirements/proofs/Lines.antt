@@ -1,9 +1,14 @@
--- Lines that were read stay what they stand for while nodes are added.
-use Rattle.std.proofs.Common.{◌≡◌, ◌∙◌, ℕ, List, [], ◌∷◌, ◌++◌, Result, Ok, Err, ap, sym, subst}
+-- Lines that are read of a text, and the same with trees, which stay trees of their formulas while nodes are added.
+use Rattle.std.proofs.Common.{◌≡◌, ◌∙◌, ℕ, List, [], ◌∷◌, ◌++◌, Option, Result, Ok, Err, ap, sym, subst}
 use Rattle.std.specs.List.{AllZip}
 use Rattle.std.specs.Result.{IsErrAnd}
 use Rattle.read_outcome.specs.Outcome.{Tells}
 use Rattle.pep508_url.specs.Vars.{Variables}
+use Rattle.pep508_url.specs.UrlTexts.{Verbatim}
+use Rattle.pep508_url.specs.declared.error.VerbatimUrlError.{VerbatimUrlError}
+use Rattle.pep508_formula.specs.Postfix.{formula_of}
+use Rattle.pep508_requirement.specs.declared.version_or_url.VersionOrUrl.{VersionOrUrl}
+use Rattle.pep508_requirement.specs.RequirementReading.{AsksFor}
 use Rattle.pep508_tree.specs.Meaning.{NodeRecord, Extends}
 use Rattle.pep508_tree.proofs.Conjoining.{tree_kept}
 use Rattle.pep508_tree.proofs.Diagrams.{holds_kept}
@@ -13,46 +18,34 @@ use Rattle.reqtable_text.specs.TextLines.{text_lines, each_line}
 use Rattle.reqtable_text.proofs.Lines.{all_zip_map, zip_more, each_more, tells_all}
 use Rattle.reqtable_text.proofs.Texts.{text_is_read}
 use Rattle.reqtable_requirements.specs.LineReading.{LineRecord, LinesFault, NotText, line_of}
-use Rattle.reqtable_requirements.specs.Requirements.{requirements_of, StandsFor, told_requirements, IsErrorOf}
-use Rattle.reqtable_requirements.specs.Requirements.{IsErrorIn, ReadsLine, ReadsLines}
+use Rattle.reqtable_requirements.specs.Requirements.{ReadsUrl, requirements_of, StandsFor, SaysLine}
+use Rattle.reqtable_requirements.specs.Requirements.{told_requirements, IsErrorOf, IsErrorIn, ReadsLine, ReadsLines}
+use Rattle.reqtable_requirements.specs.declared.marked.MarkedLine.{MarkedLine}
 use Rattle.reqtable_requirements.specs.declared.requirements.Line.{Line}
 use Rattle.reqtable_requirements.specs.declared.requirements.RequirementsError.{RequirementsError}
 use Rattle.reqtable_requirements.specs.declared.requirements.RequirementsError.TheVariants as errors
 
-module _ (vars : Variables) (old new : List NodeRecord) (more : Extends old new) where
-  tree_of_kept : (tree : _) (formula : _) → IsTreeOf old tree formula → IsTreeOf new tree formula
-  tree_of_kept tree formula h = record {
-    made = tree_kept old new more tree h.made;
-    truth = λ v. holds_kept old new more tree h.made v ∙ h.truth v;
-  }
-
-  line_kept : (line : Line) (said : LineRecord) → StandsFor vars old line said → StandsFor vars new line said
-  line_kept line said h = record {
-    number = h.number;
-    name = h.name;
-    extras = h.extras;
-    asks = h.asks;
-    tree = tree_of_kept line.requirement.marker said.formula h.tree;
-  }
-
-  pub lines_kept : (lines : List Line) (said : List LineRecord) → AllZip (StandsFor vars old) lines said
-      → AllZip (StandsFor vars new) lines said
-  lines_kept = all_zip_map (StandsFor vars old) (StandsFor vars new) line_kept
+tree_of_kept : (old new : List NodeRecord) → Extends old new → (tree : _) (formula : _) → IsTreeOf old tree formula
+    → IsTreeOf new tree formula
+tree_of_kept old new more tree formula h = record {
+  made = tree_kept old new more tree h.made;
+  truth = λ v. holds_kept old new more tree h.made v ∙ h.truth v;
+}
 
 -- what was read of some texts
-abbrev pub AreReadOf : Variables → List NodeRecord → List (ℕ × List ℕ) → List Line → Type 0
-AreReadOf vars nodes texts lines =
-    (said : List LineRecord) × (each_line (line_of vars) texts ≡ Ok said) × AllZip (StandsFor vars nodes) lines said
+abbrev pub AreReadOf : Variables → List (ℕ × List ℕ) → List MarkedLine → Type 0
+AreReadOf vars texts lines =
+    (said : List LineRecord) × (each_line (line_of vars) texts ≡ Ok said) × AllZip (SaysLine vars) lines said
 
-module _ (vars : Variables) (old new : List NodeRecord) (more : Extends old new) (texts : List (ℕ × List ℕ))
-    (lines : List Line) (read : AreReadOf vars old texts lines) (text : ℕ × List ℕ) where
+module _ (vars : Variables) (texts : List (ℕ × List ℕ)) (lines : List MarkedLine) (read : AreReadOf vars texts lines)
+    (text : ℕ × List ℕ) where
   -- one more line is read
-  pub one_more : (line : Line) → ReadsLine vars new text.0 text.1 (Ok line)
-      → AreReadOf vars new (texts ++ text ∷ []) (lines ++ line ∷ [])
+  pub one_more : (line : MarkedLine) → ReadsLine vars text.0 text.1 (Ok line)
+      → AreReadOf vars (texts ++ text ∷ []) (lines ++ line ∷ [])
   one_more line h = (
     read.0 ++ h.0 ∷ [],
     each_more (line_of vars) texts read.0 text h.0 read.1 h.1,
-    zip_more (StandsFor vars new) lines read.0 line h.0 (lines_kept vars old new more lines read.0 read.2) h.2,
+    zip_more (SaysLine vars) lines read.0 line h.0 read.2 h.2,
   )
 
   error_in : (all back : List (ℕ × List ℕ)) (error : RequirementsError) → all ≡ texts ++ text ∷ back
@@ -66,7 +59,7 @@ module _ (vars : Variables) (old new : List NodeRecord) (more : Extends old new)
 
   -- the next line is refused
   pub refused : (all back : List (ℕ × List ℕ)) (error : RequirementsError) → all ≡ texts ++ text ∷ back
-      → ReadsLine vars new text.0 text.1 (Err error)
+      → ReadsLine vars text.0 text.1 (Err error)
       → Tells (told_requirements error) (each_line (line_of vars) all) × IsErrorIn vars all error
   refused all back error e h = (
     tells_all (line_of vars) all texts read.0 text back (told_requirements error) e read.1 h.0,
@@ -74,15 +67,70 @@ module _ (vars : Variables) (old new : List NodeRecord) (more : Extends old new)
   )
 
 -- an error that is passed on is that of what was read
-pub lines_err : {X : Type 0} (view : X → List Line) (vars : Variables) (nodes : List NodeRecord)
+pub lines_err : {X L : Type 0} (Stands : L → LineRecord → Type 0) (view : X → List L) (vars : Variables)
     (texts : List (ℕ × List ℕ)) (reading : Result (List LineRecord) LinesFault) (result : Result X RequirementsError)
     (error : RequirementsError) → IsErrAnd result (λ e. e ≡ error)
     → Tells (told_requirements error) reading × IsErrorIn vars texts error
-    → ReadsLines view vars nodes texts reading result
-lines_err view vars nodes texts reading (Ok x) error h r = absurd h
-lines_err view vars nodes texts reading (Err e) error h r =
+    → ReadsLines Stands view vars texts reading result
+lines_err Stands view vars texts reading (Ok x) error h r = absurd h
+lines_err Stands view vars texts reading (Err e) error h r =
     let P : RequirementsError → Type 0 = λ e. Tells (told_requirements e) reading × IsErrorIn vars texts e in
     subst P (sym h) r
+
+-- and so is want of memory, of which nothing is told
+pub lines_memory : {X L : Type 0} (Stands : L → LineRecord → Type 0) (view : X → List L) (vars : Variables)
+    (texts : List (ℕ × List ℕ)) (reading : Result (List LineRecord) LinesFault) (result : Result X RequirementsError)
+    → IsErrAnd result (λ e. e ≡ errors.Memory) → ReadsLines Stands view vars texts reading result
+lines_memory Stands view vars texts reading result h =
+    lines_err Stands view vars texts reading result errors.Memory h (tt, tt)
+
+-- ---- lines with trees of their markers
+
+-- the line has a tree of these nodes, and says what the one with a formula does
+pub record HasTree (nodes : List NodeRecord) (line : Line) (marked : MarkedLine) : Type 0 where
+  pub number : line.number ≡ marked.number
+  pub name : line.requirement.name ≡ marked.requirement.name
+  pub extras : line.requirement.extras.items ≡ marked.requirement.extras.items
+  pub asks : line.requirement.version_or_url ≡ marked.requirement.version_or_url
+  pub tree : IsTreeOf nodes line.requirement.marker (formula_of marked.requirement.formula)
+
+pub tree_more : (old new : List NodeRecord) → Extends old new → (lines : List Line) (marked : List MarkedLine)
+    → AllZip (HasTree old) lines marked → (line : Line) (next : MarkedLine) → HasTree new line next
+    → AllZip (HasTree new) (lines ++ line ∷ []) (marked ++ next ∷ [])
+tree_more old new more lines marked h line next k =
+    zip_more (HasTree new) lines marked line next
+    (all_zip_map (HasTree old) (HasTree new)
+    (λ l m t. record {
+      number = t.number;
+      name = t.name;
+      extras = t.extras;
+      asks = t.asks;
+      tree = tree_of_kept old new more l.requirement.marker (formula_of m.requirement.formula) t.tree;
+    }) lines marked h) k
+
+module _ (vars : Variables) (nodes : List NodeRecord) where
+  line_stands : (line : Line) (marked : MarkedLine) (said : LineRecord) → HasTree nodes line marked
+      → SaysLine vars marked said → StandsFor vars nodes line said
+  line_stands line marked said h k = record {
+    number = h.number ∙ k.number;
+    name = h.name ∙ k.name;
+    extras = h.extras ∙ k.extras;
+    asks =
+        subst (λ (what : Option (VersionOrUrl Verbatim VerbatimUrlError)). AsksFor (ReadsUrl vars) said.front.source what)
+        (sym h.asks) k.asks;
+    tree = subst (IsTreeOf nodes line.requirement.marker) k.formula h.tree;
+  }
+
+  pub lines_stand : (lines : List Line) (marked : List MarkedLine) (said : List LineRecord)
+      → AllZip (HasTree nodes) lines marked → AllZip (SaysLine vars) marked said
+      → AllZip (StandsFor vars nodes) lines said
+  lines_stand [] [] [] h k = tt
+  lines_stand [] [] (s ∷ said) h k = absurd k
+  lines_stand [] (m ∷ marked) said h k = absurd h
+  lines_stand (l ∷ lines) [] said h k = absurd h
+  lines_stand (l ∷ lines) (m ∷ marked) [] h k = absurd k
+  lines_stand (l ∷ lines) (m ∷ marked) (s ∷ said) h k =
+      (line_stands l m s h.0 k.0, lines_stand lines marked said h.1 k.1)
 
 -- what is told of the lines of a text is told of its bytes
 pub text_err : (vars : Variables) (bytes text : List ℕ) (error : RequirementsError) → IsUtf8 bytes → text ≡ bytes

@@ -8,7 +8,6 @@ use Rattle.pep508_url.specs.UrlFaults.{UrlFault, told_url}
 use Rattle.pep508_url.specs.Lacking.{lacks_memory}
 use Rattle.pep508_url.specs.declared.error.VerbatimUrlError.{VerbatimUrlError}
 use Rattle.pep508_url.specs.declared.error.VerbatimUrlError.TheVariants as urls
-use Rattle.pep508_tree.specs.Meaning.{NodeRecord}
 use Rattle.pep508_error.specs.declared.refusal.RefusalKind.TheVariants as kinds
 use Rattle.pep508_error.specs.declared.error.Pep508Error.{Pep508Error}
 use Rattle.pep508_error.specs.declared.error.Pep508ErrorSource.{Pep508ErrorSource}
@@ -18,10 +17,11 @@ use Rattle.pep508_marker_read.specs.Outcome as outcome
 use Rattle.pep508_requirement_text.specs.FrontReading.{Source, Front}
 use Rattle.pep508_requirement_text.specs.FrontReading.Source.{Any, Specifiers, Url}
 use Rattle.pep508_requirement.specs.MarkerBehind.{marker_behind}
-use Rattle.pep508_requirement.specs.declared.requirement.Requirement.{Requirement}
+use Rattle.pep508_requirement.specs.declared.marked.MarkedRequirement.{MarkedRequirement}
 use Rattle.pep508_requirement.specs.declared.version_or_url.VersionOrUrl.{VersionOrUrl}
 use Rattle.pep508_requirement.specs.declared.version_or_url.VersionOrUrl.TheVariants as asked
-use Rattle.pep508_requirement.specs.RequirementReading.{AsksFor, IsReadUpTo, IsRead, IsFrontRefused}
+use Rattle.pep508_requirement.specs.MarkedReading.{IsReadMarked}
+use Rattle.pep508_requirement.specs.RequirementReading.{AsksFor, IsReadUpTo, IsFrontRefused}
 use Rattle.pep508_requirement.specs.RequirementReading.{IsUrlRefused, IsMarkerRefused, IsRefused, RefusedBy}
 use Rattle.reqtable_requirements.specs.LineReading.{NoRequirement, NumberAtEnd, url_of, with_marker}
 use Rattle.reqtable_requirements.specs.LineReading.{with_rest, with_url, with_source, with_front, line_of}
@@ -56,13 +56,12 @@ module _ (vars : Variables) (number : ℕ) (text : List ℕ) where
       ap (with_front vars number) h.reading ∙ source_read vars number front h.rest front.source what h.asks
       ∙ ap (λ cs. with_marker number front (marker_behind cs)) h.behind
 
-  pub line_read : (nodes : List NodeRecord) (r : Requirement Verbatim VerbatimUrlError)
-      → IsRead (ReadsUrl vars) nodes text r
-      → ReadsLine vars nodes number text (Ok (record { number = number; requirement = r }))
-  line_read nodes r h = (
+  pub line_read : (r : MarkedRequirement Verbatim VerbatimUrlError) → IsReadMarked (ReadsUrl vars) text r
+      → ReadsLine vars number text (Ok (record { number = number; requirement = r }))
+  line_read r h = (
     record { number = number; front = h.front; formula = h.marker.formula },
     up_to h.front r.version_or_url h.left h.whole ∙ ap (with_marker number h.front) h.is_marker,
-    record { number = refl; name = h.name; extras = h.extras; asks = h.whole.asks; tree = h.tree },
+    record { number = refl; name = h.name; extras = h.extras; asks = h.whole.asks; formula = h.formula },
   )
 
   front_refused : (kind : _) → IsFrontRefused vars text kind → line_of vars number text ≡ Err (NoRequirement number)
@@ -107,18 +106,18 @@ module _ (vars : Variables) (number : ℕ) (text : List ℕ) where
   string_refused message (inl h) = front_refused (kinds.String message) h
   string_refused message (inr h) = text_refused message h
 
-  refused_by : (nodes : List NodeRecord) (error : Pep508Error Verbatim VerbatimUrlError)
+  refused_by : (error : Pep508Error Verbatim VerbatimUrlError)
       (source : Pep508ErrorSource Verbatim VerbatimUrlError) → IsRefused (ReadsUrl vars) lacks_memory vars text error
       → RefusedBy (ReadsUrl vars) lacks_memory vars text source
-      → ReadsLine vars nodes number text (Err (refusal_by number error source))
-  refused_by nodes error sources.Memory whole h = (tt, tt)
-  refused_by nodes error sources.NumberAtEnd whole h = (at_end_refused h, tt)
-  refused_by nodes error (sources.UrlError url) whole h = (url_refused url h, (refl, whole))
-  refused_by nodes error (sources.UnsupportedRequirement message) whole h =
+      → ReadsLine vars number text (Err (refusal_by number error source))
+  refused_by error sources.Memory whole h = (tt, tt)
+  refused_by error sources.NumberAtEnd whole h = (at_end_refused h, tt)
+  refused_by error (sources.UrlError url) whole h = (url_refused url h, (refl, whole))
+  refused_by error (sources.UnsupportedRequirement message) whole h =
       (front_refused (kinds.UnsupportedRequirement message) h, (refl, whole))
-  refused_by nodes error (sources.String message) whole h = (string_refused message h, (refl, whole))
+  refused_by error (sources.String message) whole h = (string_refused message h, (refl, whole))
 
-  pub line_refused : (nodes : List NodeRecord) (error : Pep508Error Verbatim VerbatimUrlError)
+  pub line_refused : (error : Pep508Error Verbatim VerbatimUrlError)
       → IsRefused (ReadsUrl vars) lacks_memory vars text error
-      → ReadsLine vars nodes number text (Err (refusal_of number error))
-  line_refused nodes error h = refused_by nodes error error.message h h.cause
+      → ReadsLine vars number text (Err (refusal_of number error))
+  line_refused error h = refused_by error error.message h h.cause

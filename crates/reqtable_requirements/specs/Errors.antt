@@ -1,4 +1,4 @@
--- What errors say.
+-- The messages of errors.
 use Rattle.std.specs.Prelude.{ℕ, List, ◌++◌, codes, Option, Some}
 use Rattle.std.specs.Fmt.{◌++?◌, decimal}
 use Rattle.pep508_url.specs.UrlFaults.{url_error_text}
@@ -12,13 +12,13 @@ use Rattle.reqtable_requirements.specs.declared.requirements.RequirementsError.T
 use Rattle.reqtable_requirements.specs.declared.requirements.RequirementsError.TheVariants.{NumberAtEnd}
 use Rattle.reqtable_requirements.specs.declared.requirements.RequirementsError.TheVariants.{Memory}
 
--- what is said first of a line that is no requirement: its number, and the place in bytes of what is at fault
+-- the start of the message for an invalid line: its number, and the place in bytes of what is at fault
 abbrev pub requirement_front : ℕ → Pep508Error Verbatim VerbatimUrlError → List ℕ
 requirement_front number error =
     codes "line " ++ decimal number ++ codes ", byte " ++ decimal error.excerpt.start
     ++ codes ", length " ++ decimal error.excerpt.len ++ codes "\n"
 
--- why bytes are no requirements text; of what the crate `url` says of a URL nothing is claimed
+-- why bytes are not a requirements text; nothing is claimed of the messages of the crate `url`
 abbrev pub requirements_text : RequirementsError → Option (List ℕ)
 requirements_text (NotText offset) = Some (no_text offset)
 requirements_text (Line number error) =

@@ -1,4 +1,4 @@
--- Which line of a requirements text is refused, and why: the first that is none.
+-- Which line of a requirements text is refused, and why: the first that is not a requirement.
 use Rattle.std.specs.Prelude.{◌≡◌, ℕ, List, ◌∷◌, ◌++◌, Err}
 use Rattle.std.specs.List.{AllZip}
 use Rattle.pep440_specifier.specs.SpecifierText.{AreSpaces}
@@ -10,8 +10,8 @@ use Rattle.pep508_requirement_text.specs.FrontText.{IsFrontText}
 use Rattle.reqtable_requirements.specs.LineReading.{LineRecord}
 use Rattle.reqtable_requirements.specs.LineText.{HasItsUrl, IsRequirementLine, IsNumberedLine}
 
--- front and URL are a requirement's, and of the marker behind a `;` only a number that can't be raised is
--- wrong, before anything else
+-- front and URL are those of a requirement, and the first thing that is wrong in the marker after the `;` is
+-- a number that can't be raised
 pub record HasNumberAtEnd (vars : Variables) (text : List ℕ) : Type 0 where
   pub front : Front
   pub rest : List ℕ
@@ -23,12 +23,12 @@ pub record HasNumberAtEnd (vars : Variables) (text : List ℕ) : Type 0 where
   pub are_spaces : AreSpaces spaces
   pub at_end : marker_at marker ≡ Err AtEnd
 
--- the text is no requirement line's, for another reason
+-- the text is not that of a requirement line, for another reason
 pub record IsNoRequirement (vars : Variables) (text : List ℕ) : Type 0 where
   pub is_none : (line : LineRecord) → IsRequirementLine vars text line → ⊥
   pub no_number : HasNumberAtEnd vars text → ⊥
 
--- the first of some numbered lines that is no requirement's has this number, and is refused so
+-- the first of some numbered lines that is not a requirement has this number, and is refused for this reason
 pub record IsFirstRefused (IsRefused : List ℕ → Type 0) (vars : Variables) (lines : List (ℕ × List ℕ))
     (number : ℕ) : Type 0 where
   pub front : List (ℕ × List ℕ)

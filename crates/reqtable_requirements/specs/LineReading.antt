@@ -1,4 +1,4 @@
--- Requirement lines, and what a line's text reads as (PEP 508, "Grammar").
+-- Requirement lines, and how a line's text is read (PEP 508, "Grammar").
 use Rattle.std.specs.Prelude.{ℕ, List, Some, Result, Ok, Err}
 use Rattle.std.specs.Str.{skip_leading_whitespace}
 use Rattle.pep508_url.specs.Vars.{Variables}
@@ -12,14 +12,14 @@ use Rattle.pep508_requirement_text.specs.FrontReading.{Source, Front, Refused, f
 use Rattle.pep508_requirement_text.specs.FrontReading.Source.{Any, Specifiers, Url}
 use Rattle.pep508_requirement.specs.MarkerBehind.{marker_behind}
 
--- a line: its number, the name, extras and versions or URL that it asks for, and for which environments
+-- a line: its number, the name, extras and versions or URL that it requires, and the formula of its marker
 pub record LineRecord : Type 0 where
   pub number : ℕ
   pub front : Front
   pub formula : Formula ExpressionRecord
 
--- why bytes are no requirements text: where they stop being UTF-8; or the number of the first line that is
--- no requirement, or that compares with a version number that can't be raised
+-- why bytes are not a requirements text: the offset of the first byte that is not UTF-8; or the number of the
+-- first line that is not a requirement, or that compares with a version number that can't be raised
 pub data LinesFault : Type 0 where
   NotText : ℕ → LinesFault
   NoRequirement : ℕ → LinesFault
@@ -52,6 +52,6 @@ abbrev pub with_front : Variables → ℕ → Result (Front × List ℕ) Refused
 with_front vars number (Ok found) = with_source vars number found.0 found.1 found.0.source
 with_front vars number (Err refused) = Err (NoRequirement number)
 
--- the line of a text, or why it is none: for its front, its URL, or its marker
+-- the line of a text, or why it is invalid: for its front, its URL, or its marker
 unfoldable pub line_of : Variables → ℕ → List ℕ → Result LineRecord LinesFault
 line_of vars number text = with_front vars number (front_reading text)

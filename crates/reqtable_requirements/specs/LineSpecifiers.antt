@@ -1,4 +1,4 @@
--- The specifiers that a line asks for.
+-- The specifiers of a line.
 use Rattle.std.specs.Prelude.{List, [], Option, Some, None}
 use Rattle.pep440_specifier.specs.Matching.{SpecifierRecord}
 use Rattle.pep508_url.specs.UrlTexts.{Verbatim}
@@ -12,6 +12,6 @@ specifiers_by None = []
 specifiers_by (Some (VersionSpecifier list)) = list
 specifiers_by (Some (Url url)) = []
 
--- none where it asks for any version or for a URL
+-- the specifiers of a line; none if it accepts any version or requires a URL
 abbrev pub specifiers_in : Line → List SpecifierRecord
 specifiers_in line = specifiers_by line.requirement.version_or_url

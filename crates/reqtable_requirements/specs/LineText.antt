@@ -11,13 +11,13 @@ use Rattle.pep508_requirement.specs.RequirementText.{IsMarkedText}
 use Rattle.reqtable_text.specs.TextLines.{text_lines}
 use Rattle.reqtable_requirements.specs.LineReading.{LineRecord, url_of}
 
--- a URL that is asked for is one
+-- a URL that is required is valid
 abbrev pub HasItsUrl : Variables → Source → Type 0
 HasItsUrl vars Any = Unit {0}
 HasItsUrl vars (Specifiers given) = Unit {0}
 HasItsUrl vars (Url text) = (url : Verbatim) × (url_of vars text ≡ Ok url)
 
--- the text is that of the line, the line's number apart
+-- the text is that of the line, apart from the line's number
 pub record IsRequirementLine (vars : Variables) (text : List ℕ) (line : LineRecord) : Type 0 where
   pub marker : Marker
   pub is_text : IsMarkedText text line.front marker
@@ -28,6 +28,6 @@ pub record IsRequirementLine (vars : Variables) (text : List ℕ) (line : LineRe
 abbrev pub IsNumberedLine : Variables → ℕ × List ℕ → LineRecord → Type 0
 IsNumberedLine vars numbered line = IsRequirementLine vars numbered.1 line × (line.number ≡ numbered.0)
 
--- the bytes are UTF-8 of which each line that is not blank is a requirement's, and these are the lines
+-- the bytes are UTF-8 in which each line that is not blank is a requirement, and these are the lines
 abbrev pub IsRequirementsText : Variables → List ℕ → List LineRecord → Type 0
 IsRequirementsText vars bytes lines = IsUtf8 bytes × AllZip (IsNumberedLine vars) (text_lines bytes) lines

@@ -1,5 +1,5 @@
-//! Laws over the definitions that the contracts cite. The functions do nothing: each one's contract is
-//! its law.
+//! Laws about the definitions that the contracts cite. The functions do nothing: each one's contract is its
+//! law.
 
 ghost use Rattle.std.specs.Prelude.{◌≡◌, ◌↔◌, ℕ, List, All, map, Ok, Err};
 ghost use Rattle.std.specs.List.Sorted.{IsPermutation, IsStrictlySortedBy};
@@ -25,7 +25,7 @@ use pep440_specifier::laws::{a_read_specifier_is_built, specifier_text_is_read};
 use pep508_marker_read::laws::{a_read_marker_is_written, a_written_marker_is_read};
 use pep508_requirement_text::laws::{a_read_front_is_written, a_written_front_is_read};
 
-/// A text is read as a requirement line exactly where the grammar says that it is that line's.
+/// A text is read as a requirement line exactly if the grammar says that it is that line's text.
 pub fn requirement_line_is_read()
     ensures { (vars : Variables) (number : ℕ) (text : List ℕ) (line : LineRecord) →
         (line_of vars number text ≡ Ok line) ↔ (IsRequirementLine vars text line × (line.number ≡ number)) }
@@ -36,7 +36,7 @@ pub fn requirement_line_is_read()
     a_written_marker_is_read();
 }
 
-/// A text is that of at most one requirement line, its number apart.
+/// A text is that of at most one requirement line, apart from the line's number.
 pub fn text_is_one_requirement_line()
     ensures { (vars : Variables) (text : List ℕ) (line other : LineRecord) →
         IsRequirementLine vars text line → IsRequirementLine vars text other →
@@ -46,7 +46,7 @@ pub fn text_is_one_requirement_line()
     a_written_marker_is_read();
 }
 
-/// Bytes are read as a requirements text exactly where they are that of these lines.
+/// Bytes are read as a requirements text exactly if they are the text of these lines.
 pub fn requirements_are_their_lines()
     ensures { (vars : Variables) (bytes : List ℕ) (lines : List LineRecord) →
         (requirements_of vars bytes ≡ Ok lines) ↔ IsRequirementsText vars bytes lines }
@@ -57,8 +57,8 @@ pub fn requirements_are_their_lines()
     a_written_marker_is_read();
 }
 
-/// The first line that is no requirement's is named by its number, as one whose marker has a number that
-/// can't be raised, or as one that is none for another reason.
+/// The error has the number of the first line that is not a requirement, and whether its marker has a number
+/// that can't be raised or the line is invalid for another reason.
 pub fn first_line_at_fault_is_named()
     ensures none { (vars : Variables) (bytes : List ℕ) (number : ℕ) →
         (requirements_of vars bytes ≡ Err (NoRequirement number)) ↔
@@ -73,7 +73,7 @@ pub fn first_line_at_fault_is_named()
     a_written_marker_is_read();
 }
 
-/// The numbers of the lines that are read of a text rise.
+/// The numbers of the lines that are read from a text are in rising order.
 pub fn line_numbers_rise()
     ensures { (vars : Variables) (nodes : List NodeRecord) (bytes : List ℕ) (lines : List Line) →
         ReadsRequirements vars nodes bytes (Ok lines) →
@@ -82,8 +82,8 @@ pub fn line_numbers_rise()
     requirements_are_their_lines();
 }
 
-/// Each specifier of a line that is read of a text is one as which some text is read: its version goes with
-/// its operator.
+/// Each specifier of a line that is read from a text is one that can be written: its version fits its
+/// operator.
 pub fn specifiers_are_read_from_texts()
     ensures read { (vars : Variables) (nodes : List NodeRecord) (bytes : List ℕ) (lines : List Line) →
         ReadsRequirements vars nodes bytes (Ok lines) →
@@ -97,7 +97,7 @@ pub fn specifiers_are_read_from_texts()
     a_read_specifier_is_built();
 }
 
-/// Another order of the lines changes nothing of the answer to those that apply.
+/// The order of the lines doesn't change the answer.
 pub fn order_of_lines_changes_nothing()
     ensures { (v : Valuation) (admits : Admits) (lines others : List LineRecord)
         (candidates : List Candidate) (rows : List RowRecord) →
@@ -106,7 +106,7 @@ pub fn order_of_lines_changes_nothing()
         IsAnswer admits (asks_of v others) candidates rows }
 {}
 
-/// Lines of other packages change nothing in a package's row.
+/// Lines of other packages don't change a package's row.
 pub fn lines_of_other_packages_change_no_row()
     ensures { (v : Valuation) (admits : Admits) (lines others : List LineRecord)
         (candidates : List Candidate) (row : RowRecord) →

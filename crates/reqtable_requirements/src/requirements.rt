@@ -1,32 +1,41 @@
-//! A requirements text: one requirement line after another.
+//! A requirements text: one requirement per line.
+//!
+//! A line stands for a record without struct, tree or node: definitions of answers speak of records, and
+//! the relation `StandsFor` says that a line's tree holds where the record's formula does, in the nodes as
+//! they are afterwards. What holds of all lines (their numbers rise, their specifiers are read from texts)
+//! is the invariant of `Requirements`, so whoever has one, without its text, knows it too.
+//!
+//! `copied_packages` is a function with a name of its own: `Table::build` consumes the requirements, so
+//! that who has a table answers from it. With a copy at hand each environment could be judged anew, which
+//! no clause on a table would show. So `reqtable` does not re-export it, and `gate/lent.py` sees who names
+//! it.
 
-ghost use Rattle.std.specs.Prelude.{◌≡◌, Some, IfOk, map};
+ghost use Rattle.std.specs.Prelude.{◌≡◌, Some, List, IfOk, map};
 ghost use Rattle.std.specs.Cmp.Lexicographic.{slice_cmp};
 ghost use Rattle.std.specs.List.{AllZip, list_any};
 ghost use Rattle.std.specs.List.Sorted.{IsStrictlySortedBy};
 ghost use Rattle.std.specs.Ordering.{nat_cmp};
 ghost use Rattle.std.specs.Str.{bytes_eq};
 ghost use Rattle.pep508_tree.specs.Meaning.{Extends};
-ghost use Rattle.reqtable_text.specs.TextLines.{text_lines, each_line};
 ghost use Rattle.reqtable_requirements.specs.Copies.{IsLineCopy, lines_among};
-ghost use Rattle.reqtable_requirements.specs.LineReading.{line_of};
+ghost use Rattle.pep508_url.specs.Vars.{Variables};
+ghost use Rattle.reqtable_requirements.specs.LineReading.{LineRecord};
 ghost use Rattle.reqtable_requirements.specs.ReadLines.{AreRead};
-ghost use Rattle.reqtable_requirements.specs.Requirements.{ReadsLine, ReadsLines};
-ghost use Rattle.reqtable_requirements.specs.Requirements.{ReadsRequirements, refusal_of};
+ghost use Rattle.reqtable_requirements.specs.Requirements.{ReadsRequirements, SaysLine, StandsFor};
 
 use crate::laws::{line_numbers_rise, specifiers_are_read_from_texts};
-use pep508_error::{Pep508Error, Pep508ErrorSource};
+use crate::{MarkedLine, MarkedLines};
+use pep508_error::Pep508Error;
 use pep508_name::PackageName;
 use pep508_requirement::Requirement;
 use pep508_tree::Interner;
 use pep508_url::{Vars, VerbatimUrl};
-use reqtable_text::text_lines::{as_text, is_blank, line_text};
 use std::alloc::{AllocError, AllocFailed, Global};
 use std::error::Error;
 use std::fmt;
 use std::marker::Model;
 
-/// A requirement of a text.
+/// A requirement line of a text, with its marker as a tree.
 #[derive(Debug, PartialEq, Eq, Drop)]
 pub struct Line {
     /// The line's number in its text, from 1.
@@ -35,7 +44,11 @@ pub struct Line {
 }
 
 impl Line {
-    /// A copy, in memory of its own.
+    /// A deep copy of the line.
+    ///
+    /// # Errors
+    ///
+    /// `AllocError` when memory runs out.
     pub fn try_clone(&self, alloc: Global) -> Result<Line, AllocError>
         ensures { IfOk result (λ copy. IsLineCopy copy self.now) }
     {
@@ -46,19 +59,19 @@ impl Line {
     }
 }
 
-/// Why bytes are no requirements text.
+/// Why bytes are not a requirements text.
 #[derive(Debug, Drop)]
 pub enum RequirementsError {
-    /// The bytes stop being UTF-8 here, counted from 0.
+    /// The offset of the first byte that is not UTF-8, from 0.
     NotText {
         offset: usize,
     },
-    /// The first line, counted from 1, that is not taken is no requirement.
+    /// The first rejected line, counted from 1, is not a requirement.
     Line {
         number: usize,
         error: Pep508Error<VerbatimUrl>,
     },
-    /// The first line that is not taken has a marker with a version number that can't be raised.
+    /// The first rejected line has a marker with a version number that can't be raised.
     NumberAtEnd {
         number: usize,
     },
@@ -110,7 +123,8 @@ impl<T: Drop> From<AllocFailed<T>> for RequirementsError {
     }
 }
 
-/// The requirements of a text, in order. Their numbers rise, and texts say their specifiers.
+/// The requirements of a text, in order. Their numbers rise, and their specifiers are ones that can be
+/// written.
 #[derive(Debug, Drop)]
 pub struct Requirements {
     lines: Vec<Line>,
@@ -130,15 +144,21 @@ impl Model for Requirements {
 }
 
 impl Requirements {
-    /// Reads a requirements text, which is UTF-8, by lines.
+    /// Reads a requirements text, which is UTF-8, line by line.
     ///
-    /// A line ends in a line feed, and one carriage return before that belongs to the end. A `#` that
-    /// stands first or after white space begins a comment, also inside quotes. Lines of white space alone
-    /// count and are left out. Each other line is a requirement (PEP 508, "Grammar"), whose relative paths
-    /// stand in the project's root. The first one that isn't ends the reading.
+    /// A line ends in a line feed, and a carriage return before it belongs to the line's end. A `#` at the
+    /// start or after white space begins a comment, also inside quotes. Blank lines are counted and skipped.
+    /// Each other line is a requirement (PEP 508, "Grammar"), whose relative paths are resolved against the
+    /// project's root. Reading stops at the first that isn't.
     ///
-    /// Time and memory are those of reading each line's requirement. The nodes of the interner stay,
-    /// refused or not.
+    /// Reads all lines as `MarkedLines::parse` does, and then makes their trees. Time and memory are those of
+    /// both. Nodes that were added to the interner stay there, also after an error.
+    ///
+    /// # Errors
+    ///
+    /// `RequirementsError::NotText` if the bytes are not UTF-8, `RequirementsError::Line` or
+    /// `RequirementsError::NumberAtEnd` for the first line that is rejected, and `RequirementsError::Memory`
+    /// when memory runs out.
     pub fn parse(
         alloc: Global,
         bytes: &[u8],
@@ -149,24 +169,21 @@ impl Requirements {
         ensures keeps { Extends interner.old.nodes interner.new.nodes }
         ensures counts { interner.new.conjunctions ≡ interner.old.conjunctions }
     {
-        let text = match as_text(bytes) {
-            Ok(text) => text,
-            Err(offset) => return Err(RequirementsError::NotText { offset }),
-        };
-        let lines = read_lines(alloc, text, interner, vars)?;
+        let marked = MarkedLines::parse(alloc, bytes, vars)?;
+        let lines = with_trees(alloc, interner, marked.into_lines())?;
         line_numbers_rise();
         specifiers_are_read_from_texts();
         Ok(Requirements { lines })
     }
 
-    /// The requirements in the order of the text.
+    /// The requirements in the order of the text, borrowed.
     pub fn lines(&self) -> &[Line]
         ensures { result.now ≡ self.now }
     {
         &self.lines
     }
 
-    /// What holds of all of them; it does nothing.
+    /// Does nothing: its contract is what holds of all requirements that were read.
     pub fn are_read(&self)
         ensures { AreRead self.now }
     {
@@ -182,12 +199,16 @@ impl Requirements {
     }
 }
 
-/// A copy of the lines of some packages, in memory of its own. The names rise; n lines take O(n log m)
-/// comparisons with m names.
+/// A copy of the lines of some packages. The names are in rising order; n lines need O(n log m) comparisons
+/// with m names.
 ///
-/// Who makes a table of requirements gives them away, so its answers come from the table. A copy would be
-/// judged beside it: only those crates call this that are lent requirements and need a table of some
-/// (`gate/lent.py`).
+/// A table consumes the requirements that it is built from, so that answers come from the table. A copy could
+/// be judged apart from it, so this is called only by those crates that borrow requirements and need a table
+/// of some of them (`gate/lent.py`).
+///
+/// # Errors
+///
+/// `AllocError` when memory runs out.
 pub fn copied_packages(
     alloc: Global,
     requirements: &Requirements,
@@ -219,7 +240,7 @@ fn copies_among(
     Ok(copies)
 }
 
-/// Whether a name is one of some that rise.
+/// Whether a name is one of some names in rising order.
 fn is_among(names: &[&PackageName], name: &PackageName) -> bool
     requires { IsStrictlySortedBy (slice_cmp nat_cmp) (map (λ name. name.now) names.now) }
     ensures { result ≡ list_any (bytes_eq name.now) (map (λ name. name.now) names.now) }
@@ -250,55 +271,29 @@ impl Eq for Requirements {
     ghost laws = { lists_equiv laws-law };
 }
 
-/// The refusal of a line for this error of its requirement.
-fn refusal(number: usize, error: Pep508Error<VerbatimUrl>) -> RequirementsError
-    ensures { result ≡ refusal_of number error }
-{
-    match error.message() {
-        Pep508ErrorSource::Memory => RequirementsError::Memory,
-        Pep508ErrorSource::NumberAtEnd => RequirementsError::NumberAtEnd { number },
-        _ => RequirementsError::Line { number, error },
-    }
-}
-
-/// The requirement that a line's text is.
-fn read_line(
+/// The lines with marker trees. Drops a line's formula once its tree is made.
+fn with_trees(
     alloc: Global,
-    number: usize,
-    text: &str,
     interner: &mut Interner,
-    vars: &Vars,
-) -> Result<Line, RequirementsError>
-    ensures read { ReadsLine vars.now interner.new.nodes number text.now result }
+    lines: Vec<MarkedLine>,
+) -> Result<Vec<Line>, AllocError>
+    ensures made { IfOk result (λ made. (vars : Variables) (said : List LineRecord) →
+        AllZip (SaysLine vars) lines.items said →
+        AllZip (StandsFor vars interner.new.nodes) made.items said) }
     ensures keeps { Extends interner.old.nodes interner.new.nodes }
     ensures counts { interner.new.conjunctions ≡ interner.old.conjunctions }
 {
-    match Requirement::parse(alloc, interner, vars, text, Some(vars.project_root())) {
-        Ok(requirement) => Ok(Line {
+    let mut made = Vec::new(alloc);
+    for line in lines {
+        let MarkedLine {
             number,
             requirement,
-        }),
-        Err(error) => Err(refusal(number, error)),
+        } = line;
+        let requirement = requirement.with_tree(alloc, interner)?;
+        made.push(Line {
+            number,
+            requirement,
+        })?;
     }
-}
-
-fn read_lines(
-    alloc: Global,
-    text: &str,
-    interner: &mut Interner,
-    vars: &Vars,
-) -> Result<Vec<Line>, RequirementsError>
-    ensures read { ReadsLines (λ read. read.items) vars.now interner.new.nodes (text_lines text.now)
-        (each_line (line_of vars.now) (text_lines text.now)) result }
-    ensures keeps { Extends interner.old.nodes interner.new.nodes }
-    ensures counts { interner.new.conjunctions ≡ interner.old.conjunctions }
-{
-    let mut read = Vec::new(alloc);
-    for (index, line) in text.split('\n').enumerate() {
-        let line = line_text(line);
-        if !is_blank(line) {
-            read.push(read_line(alloc, index + 1, line, interner, vars)?)?;
-        }
-    }
-    Ok(read)
+    Ok(made)
 }

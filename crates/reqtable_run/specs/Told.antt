@@ -1,4 +1,4 @@
--- Of which versions the range of some specifiers tells: bounded ones, of which one is `<` or `>`, or others.
+-- Which versions the range of specifiers decides: of bounded ones, one of which has `<` or `>`, or of others.
 use Rattle.std.specs.Prelude.{◌≡◌, ◌==◌, ◌&&◌, ◌||◌, Bool, true, false, not, List, length}
 use Rattle.std.specs.Prelude.{Option, Some, None, is_none}
 use Rattle.std.specs.List.{list_any}
@@ -13,7 +13,7 @@ use Rattle.pep440_operator.specs.declared.operator.Operator.TheVariants.{Equal, 
 use Rattle.pep440_operator.specs.declared.operator.Operator.TheVariants.{NotEqualStar, TildeEqual}
 use Rattle.pep440_operator.specs.declared.operator.Operator.TheVariants.{LessThanEqual, GreaterThanEqual}
 
--- `<` or `>`
+-- the operator is `<` or `>`
 abbrev pub is_bound : Operator → Bool
 is_bound ExactEqual = false
 is_bound LessThan = true
@@ -30,17 +30,16 @@ is_bound GreaterThanEqual = false
 abbrev pub is_plain : VersionRecord → Bool
 is_plain version = length version.local == 0 && is_none version.post
 
--- told: a range tells of each plain version, and where it isn't bounded of post-releases without a local part
--- too
+-- a range decides each plain version, and if it isn't bounded also post-releases without a local part
 abbrev pub is_told : Bool → VersionRecord → Bool
 is_told bounded version = length version.local == 0 && (is_none version.post || not bounded)
 
--- a set turns between a version and a higher one: membership isn't the same all along
+-- membership in a set changes between a version and a higher one
 abbrev pub TurnsBetween : List (Point VersionRecord) → VersionRecord → VersionRecord → Type 0
 TurnsBetween set low high = list_any (λ turn. reaches (point_cmp version_cmp) turn (At high)
     && not (reaches (point_cmp version_cmp) turn (At low))) set ≡ true
 
--- there is a range, which tells of the version and doesn't hold it
+-- there is a range, which decides the version and doesn't contain it
 abbrev pub IsPassed : Bool → Option (List (Point VersionRecord)) → VersionRecord → Type 0
 IsPassed bounded None version = ⊥
 IsPassed bounded (Some set) version =

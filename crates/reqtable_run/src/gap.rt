@@ -15,8 +15,8 @@ use pep440_version::Version;
 use reqtable_text::Placed;
 use version_ranges::Boundary;
 
-/// The end of the candidates from a place on that lie between the same two boundaries, from the greatest
-/// version down.
+/// The end of the candidates that, from a place on, lie between the same two boundaries. The candidates are
+/// sorted from the highest version down.
 pub(crate) fn gap_end(placed: &[Placed<'_>], at: usize, boundaries: &[Boundary<Version>]) -> usize
     requires within { at < length placed.now }
     requires falls { Falls placed.now }
@@ -38,7 +38,7 @@ pub(crate) fn gap_end(placed: &[Placed<'_>], at: usize, boundaries: &[Boundary<V
     }
 }
 
-/// How many of the boundaries lie at the version or before it.
+/// The number of boundaries at the version or below it.
 fn reached(boundaries: &[Boundary<Version>], version: &Version) -> usize
     requires { Rising (boundary_cmp version_cmp) boundaries.now }
     ensures within { result ≤ length boundaries.now }
@@ -49,7 +49,7 @@ fn reached(boundaries: &[Boundary<Version>], version: &Version) -> usize
     boundaries.partition_point(|boundary| boundary.reaches(version))
 }
 
-/// How many of the candidates lie at the boundary or behind it.
+/// The number of candidates at the boundary or above it.
 fn reaching(placed: &[Placed<'_>], boundary: &Boundary<Version>) -> usize
     requires { Falls placed.now }
     ensures within { result ≤ length placed.now }

@@ -1,4 +1,11 @@
-//! A package's candidates, and the next of them that a range may let through.
+//! A package's candidates, and the next of them that a range may accept.
+//!
+//! The greatest candidate is searched for with the case's range, once for all environments of the case.
+//! Candidates are sorted from the greatest version down; after one that the range does not hold the search
+//! goes on at the next interval below, which both binary searches find: that version's place among the
+//! boundaries, and the end of the gap among the candidates. So there are no more turns than candidates or
+//! intervals. Within an interval each candidate is tested, since the admission test may refuse it. Without
+//! a range each is.
 
 ghost use Rattle.std.specs.Prelude.{◌≡◌, ◌≤◌, ◌<◌, ◌+◌, length, map, filter, get_or, IfOk};
 ghost use Rattle.std.specs.List.{AllWithin};
@@ -16,13 +23,13 @@ use std::alloc::{AllocError, Global};
 use std::marker::Model;
 use version_ranges::Ranges;
 
-/// The candidates of a package, from the greatest version down.
+/// The candidates of a package, from the highest version down.
 #[derive(Drop)]
 pub struct Run<'o, 'a> {
     placed: &'o [Placed<'a>],
-    /// The places of those of which the range of specifiers doesn't tell that have neither `<` nor `>`.
+    /// The indices of the candidates that the range of specifiers without `<` and `>` doesn't decide.
     untold: Vec<usize>,
-    /// The same for specifiers that have.
+    /// The indices of the candidates that the range of specifiers with a `<` or `>` doesn't decide.
     untold_by_bounds: Vec<usize>,
 }
 
@@ -40,8 +47,12 @@ impl<'o, 'a> Model for Run<'o, 'a> {
 
 impl<'o, 'a> Run<'o, 'a> {
     /// The candidates of a package. They are found in O(log n) comparisons of names for n candidates of all
-    /// packages, and each of them is looked at twice. Memory for the place of each that has a local part or
-    /// is a post-release.
+    /// packages, and each of them is visited twice. Needs memory for one index per candidate that has a local
+    /// part or is a post-release.
+    ///
+    /// # Errors
+    ///
+    /// `AllocError` when memory runs out.
     pub fn of(
         alloc: Global,
         ordered: &'o Ordered<'a>,
@@ -61,14 +72,14 @@ impl<'o, 'a> Run<'o, 'a> {
         })
     }
 
-    /// How many candidates there are.
+    /// The number of candidates.
     pub fn len(&self) -> usize
         ensures { result ≡ length self.now }
     {
         self.placed.len()
     }
 
-    /// The candidate at a place.
+    /// The candidate at an index.
     pub fn at(&self, at: usize) -> &'o Placed<'a>
         requires { at < length self.now }
         ensures { result.now ≡ get_or self.now at result.now }
@@ -77,12 +88,12 @@ impl<'o, 'a> Run<'o, 'a> {
         &placed[at]
     }
 
-    /// The next place behind one whose candidate may be taken, or the end.
+    /// The next index after `at` whose candidate may be accepted, or the number of candidates.
     ///
-    /// Where the range doesn't hold the version at the place, the candidates behind it that lie between the
-    /// same two intervals are passed over, up to the first of which the range doesn't tell: in as many steps
-    /// as the logarithms of the number of boundaries and of the number of candidates. Where it does, and
-    /// without a range, none is passed over.
+    /// If the range doesn't contain the version at `at`, the candidates after it that lie between the same
+    /// two intervals are skipped, up to the first one that the range doesn't decide: in as many steps as the
+    /// logarithms of the number of boundaries and of the number of candidates. If it does, or without a
+    /// range, none is skipped.
     pub fn next(&self, at: usize, range: &Option<Ranges<Version>>, bounded: bool) -> usize
         requires { at < length self.now }
         ensures behind { at < result }
@@ -103,7 +114,7 @@ impl<'o, 'a> Run<'o, 'a> {
         next_place(self.untold_places(bounded), at, end)
     }
 
-    /// The places of the candidates of which a range doesn't tell.
+    /// The indices of the candidates that a range doesn't decide.
     fn untold_places(&self, bounded: bool) -> &[usize]
         ensures { result.now ≡ untold_from bounded 0 self.now }
     {

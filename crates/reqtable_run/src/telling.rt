@@ -1,4 +1,9 @@
-//! Of which versions a range tells, and where those stand of which it doesn't.
+//! Which versions a range decides, and the indices of those that it doesn't.
+//!
+//! The places of candidates of which a range does not tell are stored next to the run, found in one pass:
+//! those with a local part, and for cases with `<` or `>` post-releases too. A gap is left at the next such
+//! place, as the specifiers may accept what the range does not hold. Mostly there are none, so no candidate
+//! has a mark for it.
 
 ghost use Rattle.std.specs.Prelude.{◌≡◌, ◌⊎◌, ◌≤◌, ◌<◌, length, IfOk};
 ghost use Rattle.std.specs.List.{list_any, AllByRecursion};
@@ -11,14 +16,15 @@ use pep440_version::Version;
 use reqtable_text::Placed;
 use std::alloc::{AllocError, Global};
 
-/// Whether the range of some specifiers tells of the version. They are bounded where one is `<` or `>`.
+/// Whether the range of some specifiers decides if they accept the version. `bounded` is whether one of them
+/// has `<` or `>`.
 pub fn is_told(bounded: bool, version: &Version) -> bool
     ensures { result ≡ is_told bounded version.now }
 {
     version.local().is_empty() && (version.post().is_none() || !bounded)
 }
 
-/// Whether a specifier is `<` or `>`.
+/// Whether some specifier has `<` or `>`.
 pub fn has_bound(specifiers: &[VersionSpecifier]) -> bool
     ensures { result ≡ list_any (λ s. is_bound s.operator) specifiers.now }
 {
@@ -44,7 +50,7 @@ pub fn is_bound(operator: Operator) -> bool
     }
 }
 
-/// The places of the candidates of which a range doesn't tell.
+/// The indices of the candidates that a range doesn't decide.
 pub(crate) fn untold_places(
     alloc: Global,
     bounded: bool,
@@ -61,7 +67,7 @@ pub(crate) fn untold_places(
     Ok(places)
 }
 
-/// The first of rising places that lies behind a place, up to an end.
+/// The first of some rising indices after `at`, or `end` if that comes first.
 pub(crate) fn next_place(places: &[usize], at: usize, end: usize) -> usize
     requires rising { IsNonDecreasing places.now }
     requires within { at < end }
@@ -78,7 +84,7 @@ pub(crate) fn next_place(places: &[usize], at: usize, end: usize) -> usize
     if place < end { place } else { end }
 }
 
-/// How many of rising places lie at a place or before it.
+/// The number of rising indices that are at most `at`.
 fn places_upto(places: &[usize], at: usize) -> usize
     requires { IsNonDecreasing places.now }
     ensures within { result ≤ length places.now }

@@ -1,5 +1,5 @@
--- What a table answers: the rows of the packages of which a line applies, and how many specifiers are asked
--- for that.
+-- The answers of a table: the rows of the packages of which a line applies, and how many specifiers are
+-- tested for them.
 use Rattle.std.specs.Prelude.{◌≡◌, ◌<◌, ◌+◌, ◌&&◌, ℕ, Bool, true, false, List, [], ◌∷◌, map, filter, length}
 use Rattle.std.specs.Prelude.{get_or, Option, Some, None, if◌then◌else◌}
 use Rattle.std.specs.List.{list_any, enumerate_from, AllZip}
@@ -16,14 +16,14 @@ use Rattle.reqtable_cases.specs.Usable.{is_usable, members_asked}
 use Rattle.reqtable_run.specs.Told.{is_plain}
 use Rattle.reqtable_table.specs.Kept.{KeptLine, KeptCase, KeptPackage, kept_front}
 
--- which of some kept lines apply, and what these ask for
+-- which of some kept lines apply, and what these require
 abbrev pub kept_marks : List NodeRecord → Valuation → List KeptLine → Marks
 kept_marks nodes v lines = map (λ line. holds nodes line.marker v) lines
 
 abbrev pub kept_asked : List NodeRecord → Valuation → List KeptLine → List Front
 kept_asked nodes v lines = map kept_front (marked (kept_marks nodes v lines) lines)
 
--- a line of the package applies
+-- some line of the package applies
 abbrev pub is_asked : List NodeRecord → Valuation → KeptPackage → Bool
 is_asked nodes v kept = list_any (λ line. holds nodes line.marker v) kept.lines
 
@@ -31,13 +31,13 @@ is_asked nodes v kept = list_any (λ line. holds nodes line.marker v) kept.lines
 abbrev pub own_candidates : List Candidate → List ℕ → List (ℕ × Candidate)
 own_candidates candidates name = filter (is_candidate name) (enumerate_from 0 candidates)
 
--- the row of a package
+-- a row is that of a package
 pub record IsRowFor (admits : Admits) (nodes : List NodeRecord) (v : Valuation) (candidates : List Candidate)
     (kept : KeptPackage) (row : RowRecord) : Type 0 where
   pub named : row.name ≡ kept.name
   pub its : IsRowOf admits (kept_asked nodes v kept.lines) (own_candidates candidates kept.name) row
 
--- that row where a line of the package applies
+-- a row is that of a package if a line of it applies, and there is none otherwise
 abbrev pub IsRowIf : Admits → List NodeRecord → Valuation → List Candidate → KeptPackage → Option RowRecord
     → Type 0
 IsRowIf admits nodes v candidates kept None = is_asked nodes v kept ≡ false
@@ -51,7 +51,7 @@ pub record IsPlaceIn (nodes : List NodeRecord) (v : Valuation) (kept : KeptPacka
   pub numbers : (other : KeptCase) → (get_or kept.cases place other).numbers
       ≡ map (λ line. line.number) (marked (kept_marks nodes v kept.lines) kept.lines)
 
--- a package lies in the case at a place where a line of it applies
+-- a package's active case is the one at a place, or there is none since no line of it applies
 abbrev pub LiesIn : List NodeRecord → Valuation → KeptPackage → Option ℕ → Type 0
 LiesIn nodes v kept None = is_asked nodes v kept ≡ false
 LiesIn nodes v kept (Some place) = IsPlaceIn nodes v kept place
@@ -62,9 +62,9 @@ abbrev pub AreRowsFor : Admits → List NodeRecord → Valuation → List Candid
 AreRowsFor admits nodes v candidates table rows =
     AllZip (IsRowFor admits nodes v candidates) (filter (is_asked nodes v) table) rows
 
--- ---- how many specifiers are asked
+-- ---- how many specifiers are tested
 
--- for one candidate: none where it is plain and what is asked is usable, and else at most all specifiers
+-- for one candidate: none if it is plain and the requirements are usable, otherwise at most all specifiers
 abbrev pub tests_for : List Front → ℕ × Candidate → ℕ
 tests_for asks c = if is_usable asks && is_plain c.1.version then 0 else length (members_asked asks)
 
@@ -82,9 +82,9 @@ most_tests_of nodes v candidates [] = 0
 most_tests_of nodes v candidates (kept ∷ table) =
     most_tests_in nodes v candidates kept + most_tests_of nodes v candidates table
 
--- ---- what stays
+-- ---- what doesn't change
 
--- the same line, whatever was asked of it
+-- a line is another one, apart from the number of its tests
 pub record SameLine (line before : KeptLine) : Type 0 where
   pub number : line.number ≡ before.number
   pub extras : line.extras ≡ before.extras

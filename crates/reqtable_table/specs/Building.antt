@@ -26,13 +26,13 @@ pub record IsPackageOf (limit : ℕ) (nodes : List NodeRecord) (group : Group) (
   pub cases : HasItsCases nodes kept
   pub few : length kept.cases ≤ limit
 
--- a group has more cases than the limit; of want of memory nothing is said
+-- a group has more cases than the limit; nothing is claimed of running out of memory
 abbrev pub IsRefusal : ℕ → List NodeRecord → Group → TableError → Type 0
 IsRefusal limit nodes group (TooManyCases name) =
     (name ≡ group.name) × HasMore limit (group_marks nodes group)
 IsRefusal limit nodes group Memory = Unit {0}
 
--- the first of some groups has
+-- the first of some groups with more cases than the limit
 pub record HasFirstTooMany (limit : ℕ) (nodes : List NodeRecord) (groups : List Group) (name : List ℕ)
     : Type 0 where
   pub front : List Group

@@ -1,4 +1,4 @@
--- The cases that a table has, and what building one answers.
+-- The cases of a table, and the results of building one.
 use Rattle.std.specs.Prelude.{◌≡◌, ℕ, List, map, Option, Result, Ok, Err}
 use Rattle.std.specs.List.{AllZip, AllByRecursion}
 use Rattle.std.specs.Option.{option_map}
@@ -15,7 +15,7 @@ use Rattle.reqtable_table.specs.declared.table.TableError.{TableError}
 use Rattle.reqtable_table.specs.declared.table.TableError.TheVariants.{TooManyCases, Memory}
 use Rattle.reqtable_table.specs.Kept.{KeptLine, KeptCase, KeptPackage, KeepsAll, kept_front}
 
--- a case of some lines for a set of them, with the set's tree
+-- the case of a set of lines, with the set's tree
 pub record IsCaseOf (lines : List KeptLine) (case : KeptCase) (set : Marks × Tree) : Type 0 where
   pub numbers : case.numbers ≡ map (λ line. line.number) (marked set.0 lines)
   pub tree : case.tree ≡ set.1
@@ -29,7 +29,7 @@ pub record HasItsCases (nodes : List NodeRecord) (kept : KeptPackage) : Type 0 w
   pub are : AreCases (marks_of nodes (map (λ line. line.marker) kept.lines)) nodes sets
   pub each : AllZip (IsCaseOf kept.lines) kept.cases sets
 
--- a case of a text's lines for a set of them, with the set's tree
+-- the case of a set of a text's lines, with the set's tree
 pub record IsCaseOfLines (lines : List LineRecord) (case : KeptCase) (set : Marks × Tree) : Type 0 where
   pub numbers : case.numbers ≡ numbers_of set.0 lines
   pub tree : case.tree ≡ set.1
@@ -43,23 +43,23 @@ pub record AreCasesOf (nodes : List NodeRecord) (lines : List LineRecord) (cases
   pub are : AreCases (line_marks lines) nodes sets
   pub each : AllZip (IsCaseOfLines lines) cases sets
 
--- the same line with another number
+-- a line is another one with a new number
 pub record IsRenumbered (line other : LineRecord) : Type 0 where
   pub front : line.front ≡ other.front
   pub formula : line.formula ≡ other.formula
 
--- the same case, of lines with other numbers
+-- a case is another one, of lines with new numbers
 pub record SameCase (case other : KeptCase) : Type 0 where
   pub tree : case.tree ≡ other.tree
   pub range : case.range ≡ other.range
   pub prerelease : case.prerelease ≡ other.prerelease
 
--- the cases of a name
+-- the cases under a name
 abbrev pub cases_under : List ℕ → List KeptPackage → Option (List KeptCase)
 cases_under name table = option_map (λ p. p.cases) (find (λ p. bytes_eq name p.name) table)
 
--- what building a table of some lines answers, with these nodes afterwards: it keeps the lines and has the
--- cases of each package, none of which has more than the limit; or the first by name that has more; or want
+-- the result of building a table of lines, with these nodes afterwards: it keeps the lines and has the cases
+-- of each package, none of which has more than the limit; or the first package by name that has more; or out
 -- of memory
 abbrev pub Builds : ℕ → List NodeRecord → List LineRecord → Result (List KeptPackage) TableError → Type 0
 Builds limit nodes said (Ok table) =

@@ -14,7 +14,7 @@ use Rattle.reqtable_table.specs.Kept.{KeptCase, kept_source}
 abbrev pub lent_given : List (Bor Given) → List Given
 lent_given lines = map (λ line. line.now) lines
 
--- what a line asks for, its name apart
+-- what a line requires, without its name
 abbrev pub given_front : Given → Front
 given_front line =
     record { name = []; extras = line.extras.items; source = kept_source line.is_url line.specifiers }
@@ -27,11 +27,11 @@ case_record case = record {
   prerelease = case.pre;
 }
 
--- a set has a mark for each of so many lines
+-- a set has a mark for each of `count` lines
 abbrev pub HaveMarks : ℕ → Marks × Tree → Type 0
 HaveMarks count set = length set.0 ≡ count
 
--- a case of some lines for a set of them, with the set's tree
+-- the case of a set of lines, with the set's tree
 pub record IsCaseOfGiven (lines : List Given) (case : KeptCase) (set : Marks × Tree) : Type 0 where
   pub numbers : case.numbers ≡ map (λ line. line.number) (marked set.0 lines)
   pub tree : case.tree ≡ set.1

@@ -1,4 +1,5 @@
--- Choosing by a case: what its lines ask for, of which versions its range tells, what asking them changes.
+-- Selecting by a case: what its lines require, which versions its range decides, and what testing its
+-- specifiers changes.
 use Rattle.std.specs.Prelude.{◌≡◌, ◌≤◌, ◌+◌, ◌&&◌, ℕ, Bool, true, false, List, map, length}
 use Rattle.std.specs.Prelude.{find, Option, Some, None, option_map, if◌then◌else◌}
 use Rattle.std.specs.Borrow.{Bor}
@@ -30,7 +31,7 @@ use Rattle.reqtable_table.specs.Cases.{HasItsCases}
 use Rattle.reqtable_table.specs.Counts.{tests_of}
 use Rattle.reqtable_table.specs.Answers.{kept_marks, kept_asked, is_asked, SameLine}
 
--- what the marked lines ask for
+-- what the marked lines require
 abbrev pub case_asks : Marks → List KeptLine → List Front
 case_asks marks lines = map kept_front (marked marks lines)
 
@@ -41,38 +42,38 @@ pub record AreApplying (marks : Marks) (kept : KeptPackage) : Type 0 where
   pub has : HasItsCases nodes kept
   pub are : marks ≡ kept_marks nodes valuation kept.lines
 
--- a case's range and flag are those of the asks
+-- a case's range and flag are those of the requirements
 pub record IsCaseFor (asks : List Front) (case : Case) : Type 0 where
   pub range : IsRangeOf asks case.range
   pub prerelease : case.pre ≡ names_prerelease asks
 
--- a test of lines with these results answers so
+-- a test of lines with these results computes this predicate
 abbrev pub TestsBy : (Bor TableLine → Bool → Type 0) → (TableLine → Bool) → Type 0
 TestsBy returns says = (line : Bor TableLine) (answer : Bool) → returns line answer → answer ≡ says line.now
 
--- a case's range, whose points are just the versions that the asks take, as far as it tells of them
+-- a case's range, which contains exactly the versions that the requirements accept, of those that it decides
 pub record Tells (bounded : Bool) (range : Option (List (Point VersionRecord)))
     (asks : List Front) : Type 0 where
   pub range_is : IsRangeOf asks range
   pub exact : (version : VersionRecord) → IsSaid version → is_told bounded version ≡ true →
       is_usable asks ≡ true → points_of asks (At version) ≡ list_all (ask_takes version) asks
 
--- how many specifiers are asked of a version at most
+-- how many specifiers are tested for a version at most
 abbrev pub tests_at : List Front → VersionRecord → ℕ
 tests_at asks version = if is_usable asks && is_plain version then 0 else length (members_asked asks)
 
--- the same lines, with at most so many tests more
+-- the lines are unchanged, with at most `most` tests more
 pub record AskedMore (most : ℕ) (lines before : List KeptLine) : Type 0 where
   pub same : AllZip SameLine lines before
   pub tests : tests_of lines ≤ tests_of before + most
 
--- what becomes of a package, by its candidates from the greatest down: the first that may be taken
+-- the outcome of a package by its candidates from the highest down: the first that is accepted and admitted
 abbrev pub outcome_in_order : Admits → List Front → List (ℕ × Candidate) → Outcome
 outcome_in_order admits asks run =
     if list_any has_url asks then Direct
     else chosen (option_map (λ found. found.0) (find (may_be_taken admits asks) run))
 
--- the row of a package by its candidates from the greatest down
+-- a row is that of a package by its candidates from the highest down
 pub record IsRowByRun (admits : Admits) (nodes : List NodeRecord) (v : Valuation) (run : List (ℕ × Candidate))
     (kept : KeptPackage) (row : RowRecord) : Type 0 where
   pub asked : is_asked nodes v kept ≡ true
@@ -82,7 +83,7 @@ pub record IsRowByRun (admits : Admits) (nodes : List NodeRecord) (v : Valuation
       list_any (bytes_eq extra) row.extras ≡ list_any (has_extra extra) (kept_asked nodes v kept.lines)
   pub outcome : row.outcome ≡ outcome_in_order admits (kept_asked nodes v kept.lines) run
 
--- that row where a line of the package applies
+-- a row is that of a package by its candidates from the highest down, if a line of it applies
 abbrev pub IsRowInOrder : Admits → List NodeRecord → Valuation → List (ℕ × Candidate) → KeptPackage
     → Option RowRecord → Type 0
 IsRowInOrder admits nodes v run kept None = is_asked nodes v kept ≡ false

@@ -1,4 +1,4 @@
--- What a table keeps of a package, and of whose lines that is.
+-- What a table keeps of a package, and of which lines.
 use Rattle.std.specs.Prelude.{◌≡◌, ℕ, Bool, true, false, List, [], map, flat_map, Option, if◌then◌else◌}
 use Rattle.std.specs.List.{list_any, AllZip}
 use Rattle.std.specs.List.Sorted.{IsStrictlySortedBy}
@@ -20,8 +20,8 @@ use Rattle.reqtable_requirements.specs.Asks.{lines_of}
 use Rattle.reqtable_run.specs.Told.{is_bound}
 use Rattle.reqtable_cases.specs.Lines.{is_named}
 
--- a line of a package: its number, extras and marker, whether it asks for a URL, whether one of its
--- specifiers is `<` or `>`, and the specifiers, counted
+-- a line of a package: its number, extras and marker, whether it has a URL, whether one of its specifiers has
+-- `<` or `>`, and the specifiers with their counter
 pub record KeptLine : Type 0 where
   pub number : ℕ
   pub extras : List (List ℕ)
@@ -30,7 +30,7 @@ pub record KeptLine : Type 0 where
   pub bounded : Bool
   pub specifiers : CountedRecord
 
--- a case of a package, by the numbers of its lines, and whether some specifier of them has a pre-release
+-- a case of a package, by the numbers of its lines, and whether some specifier of them names a pre-release
 pub record KeptCase : Type 0 where
   pub numbers : List ℕ
   pub tree : Tree
@@ -50,7 +50,8 @@ names_in table = map (λ p. p.name) table
 abbrev pub kept_under : List ℕ → List KeptPackage → List KeptLine
 kept_under name table = flat_map (λ p. if bytes_eq name p.name then p.lines else []) table
 
--- a kept line is that of the record, its specifiers by version; its marker is a tree of these nodes
+-- a kept line is that of the record, its specifiers in the order of versions; its marker is a tree of these
+-- nodes
 pub record Keeps (nodes : List NodeRecord) (kept : KeptLine) (said : LineRecord) : Type 0 where
   pub number : kept.number ≡ said.number
   pub extras : kept.extras ≡ said.front.extras
@@ -59,14 +60,14 @@ pub record Keeps (nodes : List NodeRecord) (kept : KeptLine) (said : LineRecord)
   pub bounded : kept.bounded ≡ list_any (λ s. is_bound s.operator) kept.specifiers.members
   pub specifiers : IsInOrder (specifiers_of said.front.source) kept.specifiers.members
 
--- a table keeps just these lines, each under its package's name, in their order
+-- a table keeps exactly these lines, each under its package's name, in their order
 pub record KeepsAll (nodes : List NodeRecord) (table : List KeptPackage) (said : List LineRecord)
     : Type 0 where
   pub rising : IsStrictlySortedBy (slice_cmp nat_cmp) (names_in table)
   pub named : (name : List ℕ) → list_any (bytes_eq name) (names_in table) ≡ is_named name said
   pub each : (name : List ℕ) → AllZip (Keeps nodes) (kept_under name table) (lines_of name said)
 
--- what a kept line asks for, its name apart
+-- what a kept line requires, without its name
 abbrev pub kept_source : Bool → List SpecifierRecord → Source
 kept_source true members = Url []
 kept_source false members = Specifiers members

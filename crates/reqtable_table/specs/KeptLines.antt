@@ -1,4 +1,4 @@
--- A table's parts as records, and what becomes of a line in it.
+-- A table's parts as records, and how a line is kept in it.
 use Rattle.std.specs.Prelude.{map}
 use Rattle.std.specs.List.{list_any}
 use Rattle.reqtable_groups.specs.declared.given.Given.{Given}
@@ -25,7 +25,7 @@ package_record kept = record {
   lines = map line_record kept.lines.items;
 }
 
--- a line with none of its specifiers asked
+-- a line of which no specifier was tested
 abbrev pub kept_by : Given → KeptLine
 kept_by line = record {
   number = line.number;

@@ -4,7 +4,7 @@ use Rattle.std.specs.Ordering.{nat_cmp, ordering_then}
 use Rattle.std.specs.declared.cmp.Ordering.{Ordering}
 use Rattle.std.specs.declared.cmp.Ordering.TheVariants.{Less, Equal, Greater}
 
--- of two lists of numbers that rise, the one comes first that has the first number at which they differ
+-- of two rising lists of numbers, the one comes first that has the first number in which they differ
 abbrev pub numbers_cmp : List ℕ → List ℕ → Ordering
 numbers_cmp [] [] = Equal
 numbers_cmp [] (b ∷ others) = Greater

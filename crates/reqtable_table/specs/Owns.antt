@@ -1,4 +1,4 @@
--- What is known of packages' candidates, as records.
+-- The known outcomes of packages and their candidates, as records.
 use Rattle.std.specs.Prelude.{List, map}
 use Rattle.reqtable_text.specs.Ordered.{placed_seen, OrderedRecord}
 use Rattle.reqtable_text.specs.declared.ordered.Placed.{Placed}

@@ -1,4 +1,4 @@
--- The candidates of a table's packages, in order, and what was taken of them before.
+-- The candidates of a table's packages, in order, and the known outcomes of their cases.
 use Rattle.std.specs.Prelude.{◌≡◌, ◌<◌, ℕ, Bool, List, [], ◌∷◌, map, filter, length}
 use Rattle.std.specs.Prelude.{get_or, Option, Some, None}
 use Rattle.std.specs.List.{AllZip, AllByRecursion}
@@ -19,19 +19,19 @@ use Rattle.reqtable_table.specs.Answers.{IsPlaceIn}
 use Rattle.reqtable_table.specs.Choosing.{case_asks, outcome_in_order}
 use Rattle.reqtable_table.specs.Kept.{KeptCase, KeptPackage}
 
--- a package's candidates, and for each of its cases what becomes of it there, where that is known
+-- a package's candidates, and for each of its cases the outcome, if it is known
 pub record OwnRecord : Type 0 where
   pub run : List (ℕ × Candidate)
   pub told : List (Option Outcome)
 
--- the candidates of a list, all of them in order with their places, and parts of these
+-- the candidates of a list, all of them in order with their places, and the parts of these for each package
 pub record RunsRecord : Type 0 where
   pub candidates : List Candidate
   pub placed : List (ℕ × Candidate)
   pub runs : List (List (ℕ × Candidate))
   pub told : List (List (Option Outcome))
 
--- the candidates are of a list that texts say, in its order
+-- the candidates are of a list that was read from a text, in their sorted order
 pub record AreOrdered (candidates : List Candidate) (placed : List (ℕ × Candidate)) : Type 0 where
   pub in_order : AreInOrder candidates placed
   pub printable : HavePrintableVersions candidates
@@ -40,7 +40,8 @@ pub record AreOrdered (candidates : List Candidate) (placed : List (ℕ × Candi
 abbrev pub AreRunsOf : List KeptPackage → RunsRecord → Type 0
 AreRunsOf table all = AllZip (λ kept run. run ≡ filter (is_candidate kept.name) all.placed) table all.runs
 
--- what is known of a package is so by a closure with these results: for the lines of a case, their outcome
+-- the known outcomes of a package are right for a closure with these results: each is that of its case's
+-- lines
 pub record IsTold (returns : Bor VersionRecord → Bool → Bool → Type 0) (kept : KeptPackage) (own : OwnRecord)
     : Type 0 where
   pub right : (admits : Admits) → AnswersBy returns admits →
@@ -51,17 +52,17 @@ pub record IsTold (returns : Bor VersionRecord → Bool → Bool → Type 0) (ke
   pub below : (count place : ℕ) (outcome : Outcome) → get_or own.told place None ≡ Some outcome →
       AllByRecursion (λ c. c.0 < count) own.run → IsTakenBelow count outcome
 
--- it is known what becomes of a package in the case in which it lies
+-- the outcome of a package's active case is known
 abbrev pub IsToldIn : List NodeRecord → Valuation → KeptPackage → List (Option Outcome) → Type 0
 IsToldIn nodes v kept told = (place : ℕ) → IsPlaceIn nodes v kept place → get_or told place None ≡ None → ⊥
 
--- candidates of packages beside what is known of these
+-- the candidates of packages, each with the known outcomes
 abbrev pub owns_of : List (List (ℕ × Candidate)) → List (List (Option Outcome)) → List OwnRecord
 owns_of [] all = []
 owns_of (run ∷ runs) [] = []
 owns_of (run ∷ runs) (told ∷ all) = record { run = run; told = told } ∷ owns_of runs all
 
--- nothing is known yet
+-- no outcome is known yet
 abbrev pub AreUntold : RunsRecord → Type 0
 AreUntold all = AllZip (λ run told. (place : ℕ) → get_or told place None ≡ None) all.runs all.told
 

@@ -1,4 +1,7 @@
 //! The answer of a table.
+//!
+//! Who writes many answers queries places and rows (`places`, `row_among`), so that a row that many
+//! environments share is made once (`reqs_rows`); `answer` makes all rows anew.
 
 ghost use Rattle.std.specs.Prelude.{◌≡◌, ◌≤◌, ◌<◌, ◌+◌, List, [], length, map, get_or, option_map, All, IfOk};
 ghost use Rattle.std.specs.Prelude.{IfSome};
@@ -33,11 +36,15 @@ use reqtable_text::Candidates;
 use std::alloc::{AllocError, Global};
 
 impl Table {
-    /// The answer of the lines that the table was built of, in an environment with extras: what
-    /// `Requirements::judge` answers for them.
+    /// The answer for the lines that the table was built from, in an environment with extras. Equals that of
+    /// `Requirements::judge`.
     ///
-    /// The interner is the one that the table was built with. Brings the candidates in order, looks for those
-    /// of each package, and answers as `answer_among` does.
+    /// `interner` is the one that the table was built with. Sorts the candidates, finds those of each
+    /// package, and answers as `answer_among` does.
+    ///
+    /// # Errors
+    ///
+    /// `AllocError` when memory runs out.
     pub fn answer<F: Fn(&Version, bool) -> bool>(
         &mut self,
         alloc: Global,
@@ -68,17 +75,22 @@ impl Table {
         self.answer_among(alloc, interner, environment, extras, &mut runs, admission)
     }
 
-    /// `answer` among the candidates that `runs` found for the packages, which serve any number of
-    /// environments.
+    /// The answer in an environment with extras, among the candidates that `runs` found for the packages. The
+    /// same `runs` serve any number of environments, if `admission` is always the one with which they were
+    /// used before.
     ///
-    /// Evaluates each marker once, whichever lines have it or its negation, and finds a package's case in
-    /// steps as the logarithm of its cases. What is taken in a case is decided once, from the greatest
-    /// version down, up to the candidate that is taken. The case's range tells of candidates without a local
-    /// part that are no post-releases, and of post-releases too where no line of the case has `<` or `>`.
-    /// Those of them that lie between two of its intervals are passed over together, in steps as the
-    /// logarithms of the number of intervals and of the package's candidates; each that an interval holds is
-    /// admitted or not. The specifiers are asked of all others, or of all candidates where the case has no
-    /// range. So the admission is that by which `runs` knows what was taken.
+    /// Evaluates each marker once, however many lines have it or its negation, and finds a package's case in
+    /// as many steps as the logarithm of its cases. The outcome of a case is decided once, from the highest
+    /// version down to the candidate that is selected. The case's range decides candidates without a local
+    /// part that are no post-releases, and post-releases too if no line of the case has `<` or `>`. Those of
+    /// them that lie between two of its intervals are skipped together, in as many steps as the logarithms of
+    /// the number of intervals and of the package's candidates; each one inside an interval is admitted or
+    /// not. The specifiers are tested for all other candidates, or for all candidates if the case has no
+    /// range.
+    ///
+    /// # Errors
+    ///
+    /// `AllocError` when memory runs out.
     pub fn answer_among<F: Fn(&Version, bool) -> bool>(
         &mut self,
         alloc: Global,
@@ -124,8 +136,13 @@ impl Table {
         Ok(Answer { rows })
     }
 
-    /// The place of the case in which each package lies in an environment with extras, where a line of it
-    /// applies: found as `answer_among` tells. Memory for the list, and for the lines of one package.
+    /// For each package the index of its active case in an environment with extras, or `None` where no line
+    /// of it applies; found as by `answer_among`. Needs memory for the list, and for the lines of one
+    /// package.
+    ///
+    /// # Errors
+    ///
+    /// `AllocError` when memory runs out.
     pub fn places(
         &self,
         alloc: Global,
@@ -142,8 +159,12 @@ impl Table {
         places_of(alloc, &self.packages, self.slots, &setting)
     }
 
-    /// The row of the package at a place in an environment with extras, where a line of it applies: as it
-    /// stands in what `answer_among` answers, at the cost that is told there for one package.
+    /// The row of the package at an index in an environment with extras, or `None` if no line of it applies.
+    /// Equals its row in the answer of `answer_among`, at the cost that is stated there for one package.
+    ///
+    /// # Errors
+    ///
+    /// `AllocError` when memory runs out.
     pub fn row_among<F: Fn(&Version, bool) -> bool>(
         &mut self,
         alloc: Global,

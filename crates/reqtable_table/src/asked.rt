@@ -1,4 +1,7 @@
-//! The lines of a package that apply, and the case that they are.
+//! The applicable lines of a package, and the case that they are.
+//!
+//! A case is found by its lines' numbers: cases are sorted by these, so a binary search finds the one that
+//! applies, and no case's tree is looked at.
 
 ghost use Rattle.std.specs.Prelude.{◌≡◌, ◌<◌, ℕ, List, length, map, get_or, IfOk, OnOk};
 ghost use Rattle.std.specs.List.{list_any, AllZip, AllByRecursion};
@@ -28,7 +31,7 @@ use reqtable_holding::{Known, Setting};
 use std::alloc::{AllocError, Global};
 use std::cmp::Ordering;
 
-/// Puts which of the lines apply in place of what stands in the list.
+/// Overwrites `marks` with one flag per line: whether the line applies.
 pub(crate) fn mark(
     marks: &mut Vec<bool>,
     lines: &[TableLine],
@@ -49,7 +52,8 @@ pub(crate) fn mark(
     Ok(())
 }
 
-/// In which of its cases each package lies, whose markers have so many slots.
+/// For each package the index of its active case, or `None` where no line applies; `slots` is the number of
+/// distinct markers.
 pub(crate) fn places_of(
     alloc: Global,
     packages: &[Package],
@@ -72,7 +76,7 @@ pub(crate) fn places_of(
     Ok(places)
 }
 
-/// The place of the case in which a package lies, where a line of it applies.
+/// The index of a package's active case, or `None` if no line of it applies.
 fn place_in(
     kept: &Package,
     setting: &Setting<'_>,
@@ -97,7 +101,7 @@ fn place_in(
     }
 }
 
-/// The extras that the marked lines ask for, each once and in the order of their bytes.
+/// The extras that the marked lines require, each once and in the order of their bytes.
 pub(crate) fn extras_of(
     alloc: Global,
     lines: &[TableLine],
@@ -112,7 +116,7 @@ pub(crate) fn extras_of(
     united_extras(alloc, &lists)
 }
 
-/// The marked lines' lists of extras.
+/// The list of extras of each marked line.
 fn lists_of<'a>(
     alloc: Global,
     lines: &'a [TableLine],
@@ -131,8 +135,8 @@ fn lists_of<'a>(
     Ok(lists)
 }
 
-/// The place of the case that the marked lines are, which apply under some valuation while the others don't:
-/// found by their numbers, which are put in the list, in as many steps as the logarithm of the cases.
+/// The index of the case of the marked lines, which apply under some valuation while the others don't. Found
+/// by their numbers, which overwrite `numbers`, in as many steps as the logarithm of the cases.
 pub(crate) fn place_of(
     kept: &Package,
     marks: &[bool],
@@ -159,7 +163,7 @@ pub(crate) fn place_of(
     }
 }
 
-/// Puts the numbers of the marked lines in place of what stands in the list.
+/// Overwrites `numbers` with the numbers of the marked lines.
 fn number(numbers: &mut Vec<usize>, lines: &[TableLine], marks: &[bool]) -> Result<(), AllocError>
     requires { length marks.now ≡ length lines.now }
     ensures { OnOk result
@@ -174,7 +178,8 @@ fn number(numbers: &mut Vec<usize>, lines: &[TableLine], marks: &[bool]) -> Resu
     Ok(())
 }
 
-/// Which of two cases stands first, by the numbers of their lines.
+/// The order of two cases by the numbers of their lines: at the first line in which they differ, the case
+/// that has it comes first.
 fn compare(numbers: &[usize], others: &[usize]) -> Ordering
     ensures { result ≡ numbers_cmp numbers.now others.now }
 {

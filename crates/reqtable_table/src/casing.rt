@@ -1,4 +1,4 @@
-//! The cases of a package's lines, and what the lines of a case ask for.
+//! The cases of a package's lines, and what the lines of a case require.
 
 ghost use Rattle.std.specs.Prelude.{◌≡◌, ◌++◌, ◌&&◌, not, List, length, map, flat_map, IfOk, OnOk};
 ghost use Rattle.std.specs.List.{list_any, AllZip, AllByRecursion};
@@ -19,7 +19,7 @@ use reqtable_groups::Given;
 use std::alloc::{AllocError, Global};
 use version_ranges::Ranges;
 
-/// The markers of lines.
+/// The marker of each line.
 pub(crate) fn markers(alloc: Global, lines: &[Given]) -> Result<Vec<MarkerTree>, AllocError>
     ensures { IfOk result (λ markers. markers.items ≡ map (λ line. line.marker) lines.now) }
 {
@@ -30,7 +30,7 @@ pub(crate) fn markers(alloc: Global, lines: &[Given]) -> Result<Vec<MarkerTree>,
     Ok(markers)
 }
 
-/// A case for each set of the lines.
+/// The case of each set of the lines.
 pub(crate) fn cases_of(
     alloc: Global,
     lines: &[Given],
@@ -63,7 +63,7 @@ fn case_of(alloc: Global, lines: &[Given], set: TreeCase) -> Result<Case, AllocE
     })
 }
 
-/// The lines that are marked.
+/// References to the lines that are marked.
 fn marked_lines<'a>(
     alloc: Global,
     marks: &[bool],
@@ -91,7 +91,7 @@ fn numbers(alloc: Global, lines: &[&Given]) -> Result<Vec<usize>, AllocError>
     Ok(numbers)
 }
 
-/// Whether a specifier of the lines has a pre-release or developmental release.
+/// Whether a specifier of the lines names a pre-release or developmental release.
 fn any_prerelease(lines: &[&Given]) -> bool
     ensures { result ≡ list_any (λ l. not l.now.is_url && any_prerelease l.now.specifiers) lines.now }
 {
@@ -100,7 +100,8 @@ fn any_prerelease(lines: &[&Given]) -> bool
         .any(|line| !line.is_url && line.specifiers.any_prerelease())
 }
 
-/// The range of what the lines ask for, where they are usable.
+/// The intersection of the ranges of the lines' specifiers, or `None` if one of them is a URL or has no range
+/// that decides it.
 fn range_of(alloc: Global, lines: &[&Given]) -> Result<Option<Ranges<Version>>, AllocError>
     ensures { IfOk result (IsRangeOf (map given_front (lent_given lines.now))) }
 {
@@ -117,7 +118,7 @@ fn has_url(lines: &[&Given]) -> bool
     lines.iter().any(|line| line.is_url)
 }
 
-/// The specifiers of all these lines.
+/// References to the specifiers of all these lines.
 fn members_of<'a>(
     alloc: Global,
     lines: &[&'a Given],

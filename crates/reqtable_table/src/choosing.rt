@@ -1,4 +1,4 @@
-//! Which of a package's candidates is taken, by the case of its lines that apply.
+//! Which of a package's candidates is selected, by its active case.
 
 ghost use Rattle.std.specs.Prelude.{◌≡◌, ◌≤◌, ◌<◌, ◌+◌, ℕ, Bool, length, map, find, IfOk, IfSome};
 ghost use Rattle.std.specs.List.{list_any, list_all, AllZip, AllByRecursion};
@@ -26,9 +26,9 @@ use reqtable_run::telling::is_told;
 use std::alloc::{AllocError, Global};
 use version_ranges::Ranges;
 
-/// The place of the first candidate that all marked lines take and that is admitted, found as
-/// `Table::answer_among` tells. A candidate of which the range doesn't tell is asked of each specifier of the
-/// marked lines, up to the first that refuses.
+/// The place in the candidate list of the first candidate that all marked lines accept and that is admitted,
+/// found as `Table::answer_among` says. A candidate that the range doesn't decide is tested against each
+/// specifier of the marked lines, up to the first that rejects it.
 pub(crate) fn chosen<F: Fn(&Version, bool) -> bool>(
     alloc: Global,
     lines: &mut [TableLine],
@@ -70,7 +70,7 @@ pub(crate) fn chosen<F: Fn(&Version, bool) -> bool>(
     Ok(None)
 }
 
-/// Whether a marked line passes a test.
+/// Whether some marked line passes a test.
 pub(crate) fn any_marked<F: Fn(&TableLine) -> bool>(
     lines: &[TableLine],
     marks: &[bool],
@@ -89,7 +89,7 @@ pub(crate) fn any_marked<F: Fn(&TableLine) -> bool>(
     false
 }
 
-/// Whether all marked lines take the version: by their range, where that tells it.
+/// Whether all marked lines accept the version: decided by their range, where that decides it.
 fn takes(
     alloc: Global,
     lines: &mut [TableLine],
@@ -114,7 +114,7 @@ fn takes(
     takes_all(alloc, lines, marks, version)
 }
 
-/// Whether all marked lines take the version: each is asked, up to the first that refuses.
+/// Whether all marked lines accept the version: each is tested, up to the first that rejects it.
 fn takes_all(
     alloc: Global,
     lines: &mut [TableLine],
@@ -139,7 +139,7 @@ fn takes_all(
     Ok(true)
 }
 
-/// Whether a line takes the version. A URL takes each.
+/// Whether a line accepts the version. A URL accepts any.
 fn ask(alloc: Global, line: &mut TableLine, version: &Version) -> Result<bool, AllocError>
     ensures answer { IfOk result (λ taken.
         taken ≡ ask_takes version.now (kept_front (line_record line.old))) }

@@ -20,12 +20,12 @@ pub(crate) struct TableLine {
     /// The marker's number in `Slots`.
     pub(crate) slot: usize,
     pub(crate) is_url: bool,
-    /// Whether a specifier is `<` or `>`.
+    /// Whether a specifier has `<` or `>`.
     pub(crate) is_bounded: bool,
     pub(crate) specifiers: CountedSpecifiers,
 }
 
-/// The lines, none of whose specifiers was asked so far.
+/// The lines as the table keeps them, with no specifier tested so far.
 pub(crate) fn kept_lines(
     alloc: Global,
     lines: Vec<Given>,

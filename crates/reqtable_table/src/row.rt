@@ -1,4 +1,4 @@
-//! The row of a package, where a line of it applies.
+//! The row of a package of which a line applies.
 
 ghost use Rattle.std.specs.Prelude.{◌≡◌, ◌≤◌, ◌<◌, ◌+◌, ℕ, ◌++◌, ◌∷◌, []};
 ghost use Rattle.std.specs.Prelude.{length, map, get_or, option_map, None, All, IfOk, OnOk, IfSome};
@@ -35,7 +35,7 @@ use reqtable_run::Run;
 use reqtable_text::Ordered;
 use std::alloc::{AllocError, Global};
 
-/// The rows of the packages of which a line applies, whose markers have so many slots.
+/// The rows of the packages of which a line applies; `slots` is the number of distinct markers.
 pub(crate) fn rows_of<F: Fn(&Version, bool) -> bool>(
     alloc: Global,
     packages: &mut [Package],
@@ -82,7 +82,7 @@ pub(crate) fn rows_of<F: Fn(&Version, bool) -> bool>(
     Ok(rows)
 }
 
-/// The row of the package at a place, where a line of it applies.
+/// The row of the package at an index, or `None` if no line of it applies.
 pub(crate) fn row_at<F: Fn(&Version, bool) -> bool>(
     alloc: Global,
     packages: &mut [Package],
@@ -130,7 +130,7 @@ pub(crate) fn row_at<F: Fn(&Version, bool) -> bool>(
     )
 }
 
-/// Adds a row, where there is one.
+/// Appends a row, if there is one.
 fn add_row(rows: &mut Vec<Row>, row: Option<Row>) -> Result<(), AllocError>
     ensures { OnOk result (rows.new.items ≡ rows.old.items ++ option_map_or (λ row. row ∷ []) row []) }
 {
@@ -140,7 +140,7 @@ fn add_row(rows: &mut Vec<Row>, row: Option<Row>) -> Result<(), AllocError>
     Ok(())
 }
 
-/// The row of a package with its candidates, where a line of it applies.
+/// The row of a package from its candidates, or `None` if no line of it applies.
 fn row_of<F: Fn(&Version, bool) -> bool>(
     alloc: Global,
     kept: &mut Package,
@@ -192,7 +192,8 @@ fn row_of<F: Fn(&Version, bool) -> bool>(
     }
 }
 
-/// What becomes of a package in the case at a place, whose lines are marked: decided where it wasn't before.
+/// The outcome of a package in the case at an index, whose lines are marked: the known one, or decided if
+/// there is none.
 #[tactic(auto, using(crate::proofs::Told::told_outcome, crate::proofs::AskedLines::same_all))]
 fn outcome_in<F: Fn(&Version, bool) -> bool>(
     alloc: Global,
@@ -232,7 +233,7 @@ fn outcome_in<F: Fn(&Version, bool) -> bool>(
     }
 }
 
-/// The same, decided now and told.
+/// The outcome of a package in the case at an index, whose lines are marked: decided, and kept in `told`.
 fn decided<F: Fn(&Version, bool) -> bool>(
     alloc: Global,
     kept: &mut Package,
@@ -273,7 +274,7 @@ fn decided<F: Fn(&Version, bool) -> bool>(
     }
 }
 
-/// What becomes of a package by its marked lines, whose case is this one.
+/// The outcome of a package by its marked lines, which are those of `case`.
 fn outcome<F: Fn(&Version, bool) -> bool>(
     alloc: Global,
     lines: &mut [TableLine],

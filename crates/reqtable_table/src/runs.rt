@@ -1,5 +1,11 @@
-//! The candidates of a table's packages, which are looked for once for all environments, and what is taken of
-//! them, which is decided once for each case.
+//! The candidates of a table's packages, which are found once for all environments, and the outcomes of their
+//! cases, each of which is decided once.
+//!
+//! A search by name for each package and environment would take longer than everything else that an answer
+//! does. The candidates are borrowed from `Ordered`, so the table keeps none. What a case selects rests on
+//! its lines, the candidates and the admission test alone, so all environments of the case share it. It is
+//! kept here and not in the table, which serves other candidates and tests too; that the test is the one by
+//! which the rest was decided is a condition (`AreTold`).
 
 ghost use Rattle.std.specs.Prelude.{◌≡◌, ℕ, get_or, set, Some, None, IfOk};
 ghost use Rattle.reqtable_table.specs.Runs.{AreRunsOf, AreUntold};
@@ -11,13 +17,13 @@ use reqtable_text::Ordered;
 use std::alloc::{AllocError, Global};
 use std::marker::Model;
 
-/// What becomes of a package in its cases, by their places, where it was decided before.
+/// The known outcomes of a package, by the indices of its cases; `None` for a case that wasn't decided yet.
 #[derive(Drop)]
 pub(crate) struct Told {
     pub(crate) outcomes: Vec<Option<Outcome>>,
 }
 
-/// The candidates of each package of a table, and what is taken of them in the cases that were asked for.
+/// The candidates of each package of a table, and the outcomes of the cases that were decided so far.
 #[derive(Drop)]
 pub struct Runs<'o, 'a> {
     pub(crate) ordered: &'o Ordered<'a>,
@@ -37,10 +43,14 @@ impl<'o, 'a> Model for Runs<'o, 'a> {
 }
 
 impl Table {
-    /// The candidates of each package of the table, for `answer_among`; of no case it is decided yet what is
-    /// taken. For n packages and m candidates that are O(n log m) comparisons of names, and each candidate of
-    /// these packages is looked at twice. Memory for each package and each case, and for the place of each
+    /// The candidates of each package of the table, for `answer_among`, without any known outcome. For n
+    /// packages and m candidates that are O(n log m) comparisons of names, and each candidate of these
+    /// packages is visited twice. Needs memory for each package and each case, and for one index per
     /// candidate with a local part or a post-release.
+    ///
+    /// # Errors
+    ///
+    /// `AllocError` when memory runs out.
     pub fn runs<'o, 'a>(
         &self,
         alloc: Global,
@@ -65,7 +75,7 @@ impl Table {
     }
 }
 
-/// What is known where nothing was decided yet, of so many cases.
+/// The known outcomes of `count` cases before any is decided.
 fn untold(alloc: Global, count: usize) -> Result<Told, AllocError>
     ensures { IfOk result (λ told. (place : ℕ) → get_or told.outcomes.items place None ≡ None) }
 {
@@ -75,7 +85,7 @@ fn untold(alloc: Global, count: usize) -> Result<Told, AllocError>
 }
 
 impl Told {
-    /// What becomes of the package in the case at a place, where it was decided before.
+    /// The outcome of the package in the case at an index, if it is known.
     pub(crate) fn outcome(&self, place: usize) -> Option<Outcome>
         ensures { result ≡ get_or self.now.outcomes.items place None }
     {
@@ -86,7 +96,7 @@ impl Told {
         }
     }
 
-    /// Keeps what becomes of the package in the case at a place.
+    /// Keeps the outcome of the package in the case at an index.
     pub(crate) fn tell(&mut self, place: usize, outcome: Outcome)
         ensures { self.new.outcomes.items ≡ set self.old.outcomes.items place (Some outcome) }
     {

@@ -1,4 +1,11 @@
 //! Tables: the packages of a text with the cases of their lines.
+//!
+//! A table consumes the requirements and keeps no second copy: the lines are moved out, sorted by name, and
+//! cut into packages. What a package has to keep (`HasItsCases`) speaks of the interner's nodes as they
+//! are, and lasts while nodes are added. A case names its lines by their numbers; its range is made of
+//! their specifiers before these are wrapped in counting lists, and whether one of them has a pre-release
+//! is stored with the case. `gate/lent.py` holds the fields of a table, its packages, lines and cases
+//! against a list, so that one more copy is seen.
 
 ghost use Rattle.std.specs.Prelude.{◌≡◌, ◌≤◌, ◌+◌, ◌*◌, List, length, map, IfOk, IfErr, OnOk};
 ghost use Rattle.std.specs.List.{AllZip, AllByRecursion};
@@ -37,19 +44,20 @@ use version_ranges::Ranges;
 /// lines don't.
 #[derive(Drop)]
 pub struct Case {
-    /// The numbers of the lines in their text, which rise.
+    /// The numbers of the lines in their text, in rising order.
     pub lines: Vec<usize>,
-    /// Holds exactly where just these lines apply; in the interner that the table was built with.
+    /// A tree of the interner that the table was built with, which holds exactly where just these lines
+    /// apply.
     pub tree: MarkerTree,
-    /// The points in the ranges of all that the lines ask for. None where one of them asks for a URL, for
-    /// `===`, or for `<` or `>` with a post-release, or where a number of a range can't be raised.
+    /// The intersection of the ranges of the lines' specifiers. `None` if a line has a URL, `===`, or `<` or
+    /// `>` with a post-release, or if a number of a range can't be raised.
     pub range: Option<Ranges<Version>>,
-    /// Whether a specifier of these lines has a pre-release or developmental release (PEP 440, "Handling of
+    /// Whether a specifier of these lines names a pre-release or developmental release (PEP 440, "Handling of
     /// pre-releases").
     pub pre: bool,
 }
 
-/// A package that some line names.
+/// A package that some line names, with its lines and their cases.
 #[derive(Drop)]
 pub(crate) struct Package {
     pub(crate) name: PackageName,
@@ -57,7 +65,7 @@ pub(crate) struct Package {
     pub(crate) lines: Vec<TableLine>,
 }
 
-/// Why there is no table.
+/// Why no table could be built.
 #[derive(Debug, PartialEq, Eq, Drop)]
 pub enum TableError {
     /// The first package, by the bytes of its name, that has more cases than the limit.
@@ -102,11 +110,11 @@ impl fmt::Display for TableError {
 
 impl Error for TableError {}
 
-/// The cases of each package of a requirements text, made beforehand for all environments.
+/// The cases of each package of a requirements text, built beforehand for all environments.
 #[derive(Drop)]
 pub struct Table {
     pub(crate) packages: Vec<Package>,
-    /// How many numbers the lines' markers have.
+    /// The number of distinct markers of the lines; a marker and its negation count once.
     pub(crate) slots: usize,
 }
 
@@ -121,10 +129,15 @@ impl Model for Table {
 impl Table {
     /// The table of a text's requirements, whose markers are trees of the interner.
     ///
-    /// For each package the cases are found line by line, so that no more sets are looked at than `limit`
-    /// allows: n lines of a package take at most `2 * n * limit` conjunctions. Beside these the lines are
-    /// brought in order by name, and for each case of n specifiers its range takes O(n log n) comparisons of
-    /// versions. The table keeps what it needs of the requirements, and no second copy of it.
+    /// The cases of each package are found line by line, so that no more sets are examined than `limit`
+    /// allows: n lines of a package need at most `2 * n * limit` conjunctions. In addition the lines are
+    /// sorted by name, and the range of each case of n specifiers needs O(n log n) comparisons of versions.
+    /// The table keeps what it needs of the requirements, without a second copy.
+    ///
+    /// # Errors
+    ///
+    /// `TableError::TooManyCases` for the first package by name that has more cases than `limit`.
+    /// `TableError::Memory` when memory runs out.
     pub fn build(
         alloc: Global,
         requirements: Requirements,
@@ -153,8 +166,8 @@ impl Table {
         }
     }
 
-    /// The cases of a package, ordered so that at the first line at which two differ the one that has it
-    /// comes first; none where no line names the package. O(log n) comparisons of names for n packages.
+    /// The cases of a package, ordered so that at the first line in which two differ the one that has it
+    /// comes first; `None` if no line names the package. Needs O(log n) comparisons of names for n packages.
     pub fn cases(&self, name: &PackageName) -> Option<&[Case]>
         ensures { option_map (λ cases. map case_record cases.now) result ≡ cases_under name.now self.now }
     {
@@ -167,14 +180,14 @@ impl Table {
         }
     }
 
-    /// How many packages there are.
+    /// The number of packages.
     pub fn len(&self) -> usize
         ensures { result ≡ length self.now }
     {
         self.packages.len()
     }
 
-    /// How many specifiers were asked since the table was built, up to `u64::MAX`. Linear in the lines.
+    /// The number of specifiers tested since the table was built, up to `u64::MAX`. Linear in the lines.
     pub fn tests(&self) -> u64
         ensures { result ≡ table_tests self.now }
     {
@@ -192,7 +205,7 @@ fn packages_tests(packages: &[Package]) -> u64
     tests
 }
 
-/// The tests of some lines beside others, up to `u64::MAX`.
+/// The number of tests of some lines added to others, up to `u64::MAX`.
 fn lines_tests(tests: u64, lines: &[TableLine]) -> u64
     ensures { result ≡ up_to_64_bits (tests + tests_of (map line_record lines.now)) }
 {

@@ -1,4 +1,4 @@
-//! Laws of tables, over the definitions that the contracts of `reqtable_table` cite. The functions do
+//! Laws about tables, over the definitions that the contracts of `reqtable_table` cite. The functions do
 //! nothing: each one's contract is its law.
 #![tactic(auto)]
 
@@ -20,7 +20,7 @@ ghost use Rattle.reqtable_table.specs.Runs.{RunsRecord, AreRunsOf, AreTold, AreU
 use pep440_version::Version;
 use reqtable_answer::Admission;
 
-/// The cases under a name are those of the lines that the table keeps of it; there are none exactly where no
+/// The cases under a name are those of the lines that the table keeps of it; there are none exactly if no
 /// line names it.
 pub fn cases_are_those_of_the_lines()
     ensures some { (nodes : List NodeRecord) (table : List KeptPackage) (said : List LineRecord)
@@ -32,13 +32,14 @@ pub fn cases_are_those_of_the_lines()
         is_named name said ≡ false }
 {}
 
-/// Each environment with its extras lies in just one case: under a valuation the tree of one case holds.
+/// An environment with extras has exactly one case of each package: under a valuation the tree of one case
+/// holds.
 pub fn a_valuation_lies_in_one_case()
     ensures { (nodes : List NodeRecord) (lines : List LineRecord) (cases : List KeptCase) (v : Valuation) →
         AreCasesOf nodes lines cases → length (filter (λ case. holds nodes case.tree v) cases) ≡ 1 }
 {}
 
-/// Lines of other packages change no case of a package but for the numbers of its lines.
+/// Lines of other packages don't change the cases of a package except for the numbers of its lines.
 pub fn other_packages_change_no_case()
     ensures { (nodes : List NodeRecord) (name : List ℕ) (said other : List LineRecord)
         (cases : List KeptCase) → AllZip IsRenumbered (lines_of name said) (lines_of name other) →
@@ -46,14 +47,14 @@ pub fn other_packages_change_no_case()
         (found : List KeptCase) × AreCasesOf nodes (lines_of name other) found × AllZip SameCase cases found }
 {}
 
-/// A package's cases stay its cases while nodes are added to the interner.
+/// A package's cases remain its cases when nodes are added to the interner.
 #[tactic(auto, using(reqtable_table::proofs::Packages::has_kept))]
 pub fn cases_are_kept()
     ensures { (old new : List NodeRecord) (kept : KeptPackage) → Extends old new →
         HasItsCases old kept → HasItsCases new kept }
 {}
 
-/// While nodes are added to the interner, a table's cases stay its cases, and it keeps the lines that it
+/// When nodes are added to the interner, a table's cases remain its cases, and it keeps the lines that it
 /// kept.
 pub fn tables_are_kept()
     ensures cases { (old new : List NodeRecord) (table : List KeptPackage) → Extends old new →
@@ -62,8 +63,8 @@ pub fn tables_are_kept()
         Extends old new → KeepsAll old table said → KeepsAll new table said }
 {}
 
-/// A table of whose lines more was asked has the cases that it had and keeps the lines that it kept, and the
-/// candidates that were found for it are found still.
+/// A table that was queried has the cases that it had and keeps the lines that it kept, and the candidates
+/// that were found for it are still those of its packages.
 pub fn asking_changes_no_table()
     ensures cases { (nodes : List NodeRecord) (table before : List KeptPackage) →
         AllZip SamePackage table before → AllByRecursion (HasItsCases nodes) before →
@@ -74,8 +75,8 @@ pub fn asking_changes_no_table()
         AllZip SamePackage table before → AreRunsOf before all → AreRunsOf table all }
 {}
 
-/// What is known of a table's cases by an admission is right where nothing is known yet, and stays so while
-/// more is asked of the table's lines.
+/// What is known of a table's cases under an admission is right if nothing is known yet, and remains so when
+/// the table is queried further.
 pub fn what_is_told_lasts<F: Fn(&Version, bool) -> bool>(admission: &Admission<F>)
     ensures first { (all : RunsRecord) (table : List KeptPackage) → AreRunsOf table all → AreUntold all →
         AreTold (F.post admission.now) table all }
@@ -86,8 +87,8 @@ pub fn what_is_told_lasts<F: Fn(&Version, bool) -> bool>(admission: &Admission<F
     let _ = admission;
 }
 
-/// A row for each package of which a line applies, by what these lines ask for, is the answer to what applies
-/// of the text.
+/// A row for each package of which a line applies, by what these lines require, is the answer to the
+/// applicable lines of the text.
 pub fn rows_for_packages_are_the_answer()
     ensures { (nodes : List NodeRecord) (v : Valuation) (table : List KeptPackage) (said : List LineRecord) →
         KeepsAll nodes table said → (admits : Admits) (candidates : List Candidate) (rows : List RowRecord) →

@@ -19,16 +19,16 @@ name_text body = encode_utf8_all (before_first is_whitespace (chars body))
 abbrev pub version_text_of : List ℕ → List ℕ
 version_text_of body = trim_start (encode_utf8_all (after_first is_whitespace (chars body)))
 
--- both, where there is white space
+-- the name and the version, if there is white space
 abbrev pub parts_in : List ℕ → Option (List ℕ × List ℕ)
 parts_in body =
     if list_any is_whitespace (chars body) then Some (name_text body, version_text_of body) else None
 
--- whether a name stands before the white space
+-- whether there is a name before the white space
 abbrev pub has_name : List ℕ → Bool
 has_name body = option_map_or (λ parts. is_name parts.0) (parts_in body) false
 
--- a candidate of a name and a version, or which of them can't be read, the name first
+-- a candidate with a name and a version, or which of them is invalid, the name first
 abbrev pub candidate_by : Option (List ℕ) → Option VersionRecord → Result Candidate CandidateFault
 candidate_by None version = Err faults.Name
 candidate_by (Some name) None = Err faults.Version

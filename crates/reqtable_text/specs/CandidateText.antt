@@ -1,5 +1,5 @@
--- Which texts are candidate lines, in their characters: a name, white space and a version (PEP 508,
--- "Names"; PEP 440, "Version scheme"), perhaps with white space around them.
+-- Which texts are candidate lines, by their characters: a name, white space and a version (PEP 508, "Names";
+-- PEP 440, "Version scheme"), optionally with white space around them.
 use Rattle.std.specs.Prelude.{◌≡◌, ℕ, ◌<◌, IsTrue, List, ◌++◌, ◌∷◌, length, Some, None, encode_utf8_all}
 use Rattle.std.specs.List.{AllByRecursion, AllZip}
 use Rattle.std.specs.Char.{is_whitespace}
@@ -11,18 +11,18 @@ use Rattle.reqtable_text.specs.declared.candidates.Candidate.{Candidate}
 use Rattle.reqtable_text.specs.declared.candidates.CandidateFault.{CandidateFault}
 use Rattle.reqtable_text.specs.declared.candidates.CandidateFault.TheVariants.{Shape, Name, Version}
 
--- white space alone, maybe none
+-- only white space, or nothing
 abbrev pub AreWhite : List ℕ → Type 0
 AreWhite = AllByRecursion (λ c. IsTrue (is_whitespace c))
 
--- one or more characters, of which the first and the last are no white space
+-- one or more characters, of which the first and the last are not white space
 pub record IsBare (cs : List ℕ) : Type 0 where
   pub some : 0 < length cs
   pub front : skip_leading_whitespace cs ≡ cs
   pub back : drop_trailing_whitespace cs ≡ cs
 
--- the characters of a line are a first word, white space, and more that ends in no white space, with
--- white space around
+-- the characters of a line are a first word, white space, and a rest that doesn't end in white space, with
+-- optional white space around
 pub record AreItsParts (line name version : List ℕ) : Type 0 where
   pub before : List ℕ
   pub between : List ℕ
@@ -44,14 +44,14 @@ pub record IsCandidateLine (line : List ℕ) (candidate : Candidate) : Type 0 wh
   pub is_name : name_of (encode_utf8_all name) ≡ Some candidate.name
   pub is_version : IsVersionText (encode_utf8_all version) candidate.version
 
--- the first word is no name
+-- the first word is not a name
 pub record LacksName (line : List ℕ) : Type 0 where
   pub name : List ℕ
   pub version : List ℕ
   pub are_parts : AreItsParts line name version
   pub is_none : name_of (encode_utf8_all name) ≡ None
 
--- the first word is a name, and what follows is no version
+-- the first word is a name, and the rest is not a version
 pub record LacksVersion (line : List ℕ) : Type 0 where
   pub name : List ℕ
   pub version : List ℕ
@@ -60,7 +60,7 @@ pub record LacksVersion (line : List ℕ) : Type 0 where
   pub is_name : name_of (encode_utf8_all name) ≡ Some normal
   pub is_none : (read : VersionRecord) → IsVersionText (encode_utf8_all version) read → ⊥
 
--- what is wrong with a line that is no candidate's, the first of these
+-- the first of these faults of a line that is not a candidate
 abbrev pub IsCandidateFault : List ℕ → CandidateFault → Type 0
 IsCandidateFault line Shape = (name version : List ℕ) → AreItsParts line name version → ⊥
 IsCandidateFault line Name = LacksName line
@@ -70,7 +70,7 @@ IsCandidateFault line Version = LacksVersion line
 abbrev pub IsNumberedCandidate : ℕ × List ℕ → Candidate → Type 0
 IsNumberedCandidate line candidate = IsCandidateLine line.1 candidate
 
--- the first of some numbered lines that is no candidate's has this number, and this is wrong with it
+-- the first of some numbered lines that is not a candidate has this number, and this is wrong with it
 pub record IsFirstFault (lines : List (ℕ × List ℕ)) (number : ℕ) (cause : CandidateFault) : Type 0 where
   pub front : List (ℕ × List ℕ)
   pub candidates : List Candidate

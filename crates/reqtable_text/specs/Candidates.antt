@@ -16,21 +16,22 @@ at_line number (Err fault) = Err (Line number fault)
 abbrev pub candidate_at : ℕ → List ℕ → Result Candidate CandidatesError
 candidate_at number text = at_line number (candidate_of text)
 
--- the candidates of a list, or where its bytes stop being UTF-8, or else its first line that is no candidate
+-- the candidates of a list, or the offset of its first byte that is not UTF-8, or else its first line that is
+-- not a candidate
 abbrev pub candidates_of : List ℕ → Result (List Candidate) CandidatesError
 candidates_of = lines_of_text candidate_at NotText
 
--- each candidate has a version as texts say it, whose print is read as it
+-- each candidate has a version that can be written, whose print is read as that version
 abbrev pub HavePrintableVersions : List Candidate → Type 0
 HavePrintableVersions = All (λ candidate. IsPrintable candidate.version)
 
--- what an error says of a text, if it is not want of memory
+-- the fault of a text for an error; none for running out of memory
 abbrev pub told_candidates : CandidatesError → Option CandidatesError
 told_candidates (NotText offset) = Some (NotText offset)
 told_candidates (Line number cause) = Some (Line number cause)
 told_candidates Memory = None
 
--- a line with a name is reached: the lines before it are candidates'
+-- reading reaches a line with a name: the lines before it are candidates
 pub record IsNameReached (lines : List (ℕ × List ℕ)) : Type 0 where
   pub front : List (ℕ × List ℕ)
   pub candidates : List Candidate

@@ -1,8 +1,8 @@
--- The fronts of names as numbers, which stand in the order of the names but where they are one.
+-- The fronts of names as numbers, whose order is that of the names unless the fronts are equal.
 use Rattle.std.specs.Prelude.{◌+◌, ◌*◌, ◌&&◌, ℕ, zero, suc, Bool, List, [], ◌∷◌, nat_lt}
 use Rattle.std.specs.List.{list_all}
 
--- the first of some bytes, and those behind it
+-- the first of some bytes, or 0, and the bytes after it
 abbrev pub first_or_none : List ℕ → ℕ
 first_or_none [] = 0
 first_or_none (byte ∷ bytes) = byte
@@ -11,12 +11,12 @@ abbrev pub behind_first : List ℕ → List ℕ
 behind_first [] = []
 behind_first (byte ∷ bytes) = bytes
 
--- a number, with so many bytes behind its digits; where there are fewer the others are 0
+-- a number, with `count` bytes appended as its last digits of eight bits; missing bytes are 0
 abbrev pub front_from : ℕ → ℕ → List ℕ → ℕ
 front_from zero front bytes = front
 front_from (suc count) front bytes = front_from count (front * 256 + first_or_none bytes) (behind_first bytes)
 
--- the first eight bytes
+-- the number of the first eight bytes
 unfoldable pub front_of : List ℕ → ℕ
 front_of bytes = front_from 8 0 bytes
 

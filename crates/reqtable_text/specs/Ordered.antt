@@ -1,4 +1,4 @@
--- Candidates with their places, package by package and from the greatest version down.
+-- Candidates with their places, package by package and from the highest version down.
 use Rattle.std.specs.Prelude.{ℕ, List}
 use Rattle.std.specs.List.{enumerate_from}
 use Rattle.std.specs.List.Sorted.{IsPermutation, IsStrictlySortedBy}
@@ -9,11 +9,11 @@ use Rattle.pep508_name.specs.Name.{name_cmp}
 use Rattle.reqtable_text.specs.declared.candidates.Candidate.{Candidate}
 use Rattle.reqtable_text.specs.declared.ordered.Placed.{Placed}
 
--- a place, and the candidate that stands there
+-- a place, and the candidate that is there
 abbrev pub placed_seen : Placed → ℕ × Candidate
 placed_seen placed = (placed.place, placed.candidate.now)
 
--- the name of a candidate decides, then its version, the greater first, then its place
+-- the order of candidates: by name, then by version, the higher first, then by place
 abbrev pub order_cmp : ℕ × Candidate → ℕ × Candidate → Ordering
 order_cmp =
     then_cmp (on (λ c. c.1.name) name_cmp)

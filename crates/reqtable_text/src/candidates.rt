@@ -1,4 +1,4 @@
-//! A candidate list: one candidate after another.
+//! A candidate list: one candidate per line.
 
 ghost use Rattle.std.specs.Prelude.{◌≡◌, IsTrue, IfOk, OnOk, Err};
 ghost use Rattle.read_outcome.specs.Outcome.{Answers};
@@ -20,7 +20,7 @@ use std::error::Error;
 use std::fmt;
 use std::marker::Model;
 
-/// A version of a package that may be taken.
+/// A version of a package that may be selected.
 #[derive(Debug, PartialEq, Eq, Drop)]
 pub struct Candidate {
     pub name: PackageName,
@@ -28,7 +28,11 @@ pub struct Candidate {
 }
 
 impl Candidate {
-    /// A copy, in memory of its own.
+    /// A deep copy of the candidate.
+    ///
+    /// # Errors
+    ///
+    /// `AllocError` when memory runs out.
     pub fn try_clone(&self, alloc: Global) -> Result<Candidate, AllocError>
         ensures { IfOk result (λ copy. copy ≡ self.now) }
     {
@@ -42,16 +46,16 @@ impl Candidate {
 /// What is wrong with a candidate line.
 #[derive(Clone, Copy, Debug, PartialEq, Eq)]
 pub enum CandidateFault {
-    /// No white space stands inside, so name and version can't be told apart.
+    /// There is no white space inside, so name and version can't be separated.
     Shape,
-    /// What stands before the white space is no name (PEP 508, "Names").
+    /// What is before the white space is not a name (PEP 508, "Names").
     Name,
-    /// What stands behind it is no version (PEP 440, "Version scheme").
+    /// What is after the white space is not a version (PEP 440, "Version scheme").
     Version,
 }
 
 impl CandidateFault {
-    /// What is wrong, in a word.
+    /// The fault in one word, as `shape`.
     pub fn as_str(self) -> &'static str
         ensures { result.now ≡ cause_text self }
     {
@@ -75,14 +79,14 @@ impl fmt::Display for CandidateFault {
 
 impl Error for CandidateFault {}
 
-/// Why bytes are no candidate list.
+/// Why bytes are not a candidate list.
 #[derive(Clone, Copy, Debug, PartialEq, Eq)]
 pub enum CandidatesError {
-    /// The bytes stop being UTF-8 here, counted from 0.
+    /// The offset of the first byte that is not UTF-8, from 0.
     NotText {
         offset: usize,
     },
-    /// The first line, counted from 1, that is no candidate.
+    /// The first line, counted from 1, that is not a candidate.
     Line {
         number: usize,
         cause: CandidateFault,
@@ -147,15 +151,20 @@ impl Model for Candidates {
 }
 
 impl Candidates {
-    /// Reads a candidate list, which is UTF-8, by lines.
+    /// Reads a candidate list, which is UTF-8, line by line.
     ///
-    /// Lines end, have comments and are left out as in a requirements text. Each other line is a
-    /// name, white space and a version, as `numpy 1.26.4`, with white space around them or none. The
-    /// version is in any spelling that PEP 440 normalizes ("Normalization"), as `v1.0-ALPHA`.
+    /// Line ends, comments and blank lines are as in a requirements text. Each other line is a name, white
+    /// space and a version, as `numpy 1.26.4`, with or without white space around them. The version is in any
+    /// spelling that PEP 440 normalizes ("Normalization"), as `v1.0-ALPHA`.
     ///
-    /// The first line of another kind ends the reading, with the first thing that is wrong of its
-    /// shape, its name and its version. A line of a wrong shape or name is refused as that whatever
-    /// memory there is. Time grows with the length of the bytes, memory with the candidates.
+    /// Time grows with the number of bytes, memory with the candidates.
+    ///
+    /// # Errors
+    ///
+    /// `CandidatesError::NotText` if the bytes are not UTF-8. `CandidatesError::Line` for the first line that
+    /// is not a candidate, with the first fault of its shape, its name and its version.
+    /// `CandidatesError::Memory` when memory runs out; rejecting a line for its shape or name never fails for
+    /// lack of memory.
     pub fn parse(alloc: Global, bytes: &[u8]) -> Result<Candidates, CandidatesError>
         ensures answered { Answers (λ candidates. candidates) told_candidates result
             (candidates_of bytes.now) }
@@ -171,21 +180,25 @@ impl Candidates {
         Ok(Candidates { items })
     }
 
-    /// The candidates in the order of the list.
+    /// The candidates in the order of the list, borrowed.
     pub fn items(&self) -> &[Candidate]
         ensures { result.now ≡ self.now }
     {
         &self.items
     }
 
-    /// That each version is one as texts say it.
+    /// Does nothing: its contract is that each version is one that can be written.
     pub fn have_printable_versions(&self)
         ensures { HavePrintableVersions self.now }
     {
         let _ = &self.items;
     }
 
-    /// A copy, in memory of its own.
+    /// A deep copy of the list.
+    ///
+    /// # Errors
+    ///
+    /// `AllocError` when memory runs out.
     pub fn try_clone(&self, alloc: Global) -> Result<Candidates, AllocError>
         ensures { IfOk result (λ copy. copy ≡ self.now) }
     {
@@ -225,7 +238,8 @@ impl Eq for Candidates {
     ghost laws = { lists_equiv laws-law };
 }
 
-/// The text before the first white space, and what follows that run of white space.
+/// The text before the first white space, and the text after that run of white space; `None` without white
+/// space.
 fn split_at_white(text: &str) -> Option<(&str, &str)>
     ensures { option_map (λ parts. (parts.0.now, parts.1.now)) result ≡ parts_in text.now }
 {

@@ -1,5 +1,11 @@
-//! Candidates beside the fronts of their names, by which most names are told apart, and the heads of their
+//! Candidates with numbers that order most of them: the first bytes of their names, and the heads of their
 //! versions.
+//!
+//! A front is the first eight bytes of a name as one number: four of five comparisons end there and read no
+//! candidate. A name of seven bytes or fewer is its front, since no name has a byte 0. A front is a field
+//! with the fact that it is the name's, and a head one with the fact that it is the version's, so that the
+//! contract of the comparison is that of names and versions. Both are dropped once the candidates are
+//! sorted.
 
 ghost use Rattle.std.specs.Prelude.{◌≡◌, ◌<◌, ◌+◌, ◌*◌, ◌^◌};
 ghost use Rattle.reqtable_text.specs.Fronts.{first_or_none, behind_first, front_of};
@@ -7,7 +13,8 @@ ghost use Rattle.reqtable_text.specs.Heads.{head_of};
 
 use crate::ordered::Placed;
 
-/// A candidate with its place in the list, and the front of its name and the head of its version as numbers.
+/// A candidate with its index in the list, and with the front of its name and the head of its version as
+/// numbers.
 #[derive(Drop)]
 pub(crate) struct Fronted<'a> {
     pub(crate) front: u64,
@@ -17,7 +24,7 @@ pub(crate) struct Fronted<'a> {
     pub(crate) ghost is_head: { head ≡ head_of placed.candidate.now.version },
 }
 
-/// The first eight bytes of a text as one number, the first byte first; bytes that it doesn't have are 0.
+/// The first eight bytes of a text as one big-endian number; missing bytes are 0.
 #[tactic(auto, unfolding(crate::specs::Fronts::front_of))]
 pub(crate) fn front_of(text: &str) -> u64
     ensures { result ≡ front_of text.now }
@@ -33,7 +40,8 @@ pub(crate) fn front_of(text: &str) -> u64
     front
 }
 
-/// A number with the first of some bytes behind its digits, and the bytes behind that one.
+/// A number with the first of some bytes appended as its last eight bits (0 if there is none), and the bytes
+/// after it.
 fn shifted(front: u64, bytes: &[u8]) -> (u64, &[u8])
     requires { front < 2 ^ 56 }
     ensures front { result.0 ≡ front * 256 + first_or_none bytes.now }

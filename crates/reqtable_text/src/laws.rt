@@ -1,5 +1,5 @@
-//! Laws over the definitions that the contracts cite. The functions do nothing: each one's contract is
-//! its law.
+//! Laws about the definitions that the contracts cite. The functions do nothing: each one's contract is its
+//! law.
 
 ghost use Rattle.std.specs.Prelude.{◌≡◌, ◌↔◌, ℕ, List, Ok, Err};
 ghost use Rattle.std.specs.List.{AllZip};
@@ -14,7 +14,7 @@ ghost use Rattle.reqtable_text.specs.Candidates.{candidates_of, HavePrintableVer
 
 use pep440_text::laws::{read_is_printable, version_text_is_read};
 
-/// A text is read as a candidate exactly where the grammar says that it is that candidate's line.
+/// A text is read as a candidate exactly if the grammar says that it is that candidate's line.
 pub fn candidate_line_is_read()
     ensures { (line : List ℕ) (candidate : Candidate) → IsUtf8 line →
         (candidate_of line ≡ Ok candidate) ↔ IsCandidateLine line candidate }
@@ -30,8 +30,8 @@ pub fn text_is_one_candidate_line()
     version_text_is_read();
 }
 
-/// A candidate list is UTF-8 of which each line that is not blank is a candidate's; these are what is
-/// read, in order.
+/// Bytes are read as a candidate list exactly if they are UTF-8 and each line that is not blank is a
+/// candidate's; these are the candidates that are read, in order.
 pub fn candidates_are_their_lines()
     ensures { (bytes : List ℕ) (candidates : List Candidate) →
         (candidates_of bytes ≡ Ok candidates) ↔
@@ -40,7 +40,7 @@ pub fn candidates_are_their_lines()
     version_text_is_read();
 }
 
-/// `Line` has the number of the first line that is no candidate's, and what is wrong with it.
+/// `Line` has the number of the first line that is not a candidate, and what is wrong with it.
 pub fn first_line_at_fault_is_named()
     ensures { (bytes : List ℕ) (number : ℕ) (cause : CandidateFault) →
         (candidates_of bytes ≡ Err (Line number cause)) ↔
@@ -49,7 +49,8 @@ pub fn first_line_at_fault_is_named()
     version_text_is_read();
 }
 
-/// Each candidate that is read of a list has a version as texts say it, whose print is read as it.
+/// Each candidate that is read from a list has a version that can be written, whose print is read as that
+/// version.
 pub fn candidates_have_printable_versions()
     ensures { (bytes : List ℕ) (candidates : List Candidate) → candidates_of bytes ≡ Ok candidates →
         HavePrintableVersions candidates }

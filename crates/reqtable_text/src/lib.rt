@@ -1,4 +1,4 @@
-//! What texts of the judge are made of: lines without their ends and comments; and candidate lists.
+//! The texts that are read: lines without their ends and comments, and candidate lists.
 #![tactic(auto)]
 
 pub mod candidates;

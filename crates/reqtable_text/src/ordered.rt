@@ -1,4 +1,4 @@
-//! Candidates by package, from the greatest version down.
+//! Candidates by package, from the highest version down.
 
 ghost use Rattle.std.specs.Prelude.{◌≡◌, map, filter, IfOk};
 ghost use Rattle.std.specs.List.Sorted.{IsStrictlySortedBy};
@@ -14,15 +14,15 @@ use std::alloc::{AllocError, Global};
 use std::cmp::Ordering;
 use std::marker::Model;
 
-/// A candidate, and its place in the list.
+/// A candidate with its index in the candidate list.
 #[derive(Clone, Copy)]
 pub struct Placed<'a> {
     pub place: usize,
     pub candidate: &'a Candidate,
 }
 
-/// The candidates of a list by package, from the greatest version down, the first in the list first among
-/// equals.
+/// The candidates of a list by package, from the highest version down; among equals the first in the list
+/// comes first.
 #[derive(Drop)]
 pub struct Ordered<'a> {
     candidates: &'a Candidates,
@@ -44,9 +44,13 @@ impl<'a> Model for Ordered<'a> {
 }
 
 impl Candidates {
-    /// The candidates in order. Comparisons grow with their number times its logarithm, memory with their
-    /// number. Names that differ in their first eight bytes are compared by these as one number each, and
-    /// versions by the first two numbers of their releases where these differ.
+    /// The candidates sorted by package and from the highest version down. n candidates need O(n log n)
+    /// comparisons, and memory for n of them. Names that differ in their first eight bytes are compared by
+    /// these as one number each, and versions by the first two numbers of their releases where these differ.
+    ///
+    /// # Errors
+    ///
+    /// `AllocError` when memory runs out.
     pub fn in_order(&self, alloc: Global) -> Result<Ordered<'_>, AllocError>
         ensures { IfOk result (λ ordered. ordered.candidates ≡ self.now) }
     {
@@ -61,14 +65,14 @@ impl Candidates {
 }
 
 impl<'a> Ordered<'a> {
-    /// The list that was put in order.
+    /// The candidate list that was sorted.
     pub fn candidates(&self) -> &'a Candidates
         ensures { result.now ≡ self.now.candidates }
     {
         self.candidates
     }
 
-    /// All candidates in order, each with its place.
+    /// All candidates in sorted order, each with its index in the list.
     pub fn placed(&self) -> &[Placed<'a>]
         ensures placed { map placed_seen result.now ≡ self.now.placed }
         ensures in_order { AreInOrder self.now.candidates self.now.placed }
@@ -78,8 +82,7 @@ impl<'a> Ordered<'a> {
         &self.placed
     }
 
-    /// The candidates of a package, in order. Comparisons of names grow with the logarithm of the number of
-    /// all candidates.
+    /// The candidates of a package, in sorted order. Needs O(log n) comparisons of names for n candidates.
     pub fn run_of(&self, name: &PackageName) -> &[Placed<'a>]
         ensures { map placed_seen result.now ≡ filter (λ c. bytes_eq name.now c.1.name) self.now.placed }
     {
@@ -87,14 +90,14 @@ impl<'a> Ordered<'a> {
     }
 }
 
-/// How the name of a candidate compares with another.
+/// The order of a candidate's name and another name.
 fn compare_name(placed: &Placed<'_>, name: &PackageName) -> Ordering
     ensures { result ≡ name_cmp placed.now.candidate.now.name name.now }
 {
     placed.candidate.name.as_str().cmp(name.as_str())
 }
 
-/// Those of a package among candidates in order.
+/// The candidates of a package among sorted candidates.
 fn run_in<'s, 'a>(placed: &'s [Placed<'a>], name: &PackageName) -> &'s [Placed<'a>]
     requires { IsStrictlySortedBy order_cmp (map placed_seen placed.now) }
     ensures { map placed_seen result.now

@@ -8,7 +8,11 @@ use pep440_version::{Version, VersionParseError};
 use pep508_name::{PackageName, is_name};
 use std::alloc::{AllocError, Global};
 
-/// The version that the whole text is.
+/// The version that the whole text is, or `None` if it isn't one.
+///
+/// # Errors
+///
+/// `AllocError` when memory runs out.
 #[tactic(auto, using(pep440_version::proofs::Found::reads_found))]
 pub fn read_version(alloc: Global, text: &str) -> Result<Option<Version>, AllocError>
     ensures { IfOk result (λ version. version ≡ version_of text.now) }
@@ -20,7 +24,11 @@ pub fn read_version(alloc: Global, text: &str) -> Result<Option<Version>, AllocE
     }
 }
 
-/// The name that the whole text is. Want of memory is told for a name alone.
+/// The name that the whole text is, or `None` if it isn't one.
+///
+/// # Errors
+///
+/// `AllocError` when memory runs out. Rejecting a text never fails for lack of memory.
 #[tactic(auto, unfolding(pep508_name::specs::Name::name_of))]
 pub fn read_name(alloc: Global, text: &str) -> Result<Option<PackageName>, AllocError>
     ensures name { IfOk result (λ name. name ≡ name_of text.now) }

@@ -1,5 +1,5 @@
-//! Candidates in order, by the fronts of their names and the heads of their versions, and by all that decides
-//! where these are equal.
+//! Sorting of candidates: by the fronts of their names and the heads of their versions, and where these are
+//! equal by everything that decides their order.
 
 ghost use Rattle.std.specs.Prelude.{◌≡◌, true, map, IfOk};
 ghost use Rattle.std.specs.List.{enumerate_from};
@@ -15,7 +15,7 @@ use crate::ordered::Placed;
 use std::alloc::{AllocError, Global};
 use std::cmp::Ordering;
 
-/// The candidates with their places, as in the list.
+/// The candidates in the order of the list, each with its index, front and head.
 pub(crate) fn with_fronts(
     alloc: Global,
     candidates: &[Candidate],
@@ -37,7 +37,7 @@ pub(crate) fn with_fronts(
     Ok(fronted)
 }
 
-/// The same without their fronts and heads.
+/// The candidates in their order, without their fronts and heads.
 pub(crate) fn without_fronts<'a>(
     alloc: Global,
     fronted: Vec<Fronted<'a>>,
@@ -52,7 +52,7 @@ pub(crate) fn without_fronts<'a>(
     Ok(placed)
 }
 
-/// Which of two candidates stands first. Versions are compared only where names are equal.
+/// The sorted order of two candidates. Versions are compared only if the names are equal.
 pub(crate) fn compare_fronted(a: &Fronted<'_>, b: &Fronted<'_>) -> Ordering
     ensures { result ≡ order_cmp (placed_seen a.now.placed) (placed_seen b.now.placed) }
 {
@@ -64,7 +64,7 @@ pub(crate) fn compare_fronted(a: &Fronted<'_>, b: &Fronted<'_>) -> Ordering
     version.then(a.placed.place.cmp(&b.placed.place))
 }
 
-/// How the names of two candidates compare. They are looked at only where the fronts are one and full.
+/// The order of the names of two candidates. Reads them only if the fronts are equal and full.
 fn compare_names(a: &Fronted<'_>, b: &Fronted<'_>) -> Ordering
     ensures { result ≡ name_cmp a.now.placed.candidate.now.name b.now.placed.candidate.now.name }
 {
@@ -78,7 +78,7 @@ fn compare_names(a: &Fronted<'_>, b: &Fronted<'_>) -> Ordering
     first.as_str().cmp(second.as_str())
 }
 
-/// How the versions of two candidates compare. They are looked at only where the heads are one.
+/// The order of the versions of two candidates. Reads them only if the heads are equal.
 fn compare_versions(a: &Fronted<'_>, b: &Fronted<'_>) -> Ordering
     ensures { result ≡ version_cmp a.now.placed.candidate.now.version b.now.placed.candidate.now.version }
 {
@@ -89,7 +89,7 @@ fn compare_versions(a: &Fronted<'_>, b: &Fronted<'_>) -> Ordering
     a.placed.candidate.version.cmp(&b.placed.candidate.version)
 }
 
-/// Does nothing: it is what a name is.
+/// Does nothing: its contract is that a name consists of bytes.
 #[tactic(auto, using(crate::proofs::Fronts::name_of_bytes))]
 fn has_name_of_bytes(candidate: &Candidate)
     ensures { are_bytes candidate.now.name ≡ true }

@@ -8,7 +8,11 @@ ghost use Rattle.reqtable_text.specs.TextLines.{without_comment, is_blank};
 
 use std::str;
 
-/// The text that bytes are, or where they stop being UTF-8, counted from 0.
+/// The bytes as text.
+///
+/// # Errors
+///
+/// The offset of the first byte that is not UTF-8, from 0.
 pub fn as_text(bytes: &[u8]) -> Result<&str, usize>
     ensures text { IfOk result (λ text. text.now ≡ bytes.now) }
     ensures is_text { OnOk result (IsUtf8 bytes.now) }
@@ -20,7 +24,7 @@ pub fn as_text(bytes: &[u8]) -> Result<&str, usize>
     }
 }
 
-/// What there is to read on a line.
+/// A line without its comment and without a carriage return at its end.
 pub fn line_text(line: &str) -> &str
     ensures { result.now ≡ without_comment (strip_carriage_return line.now) }
 {
@@ -33,13 +37,14 @@ fn strip_carriage_return(line: &str) -> &str
     line.strip_suffix('\r').unwrap_or(line)
 }
 
+/// Whether a line has only white space.
 pub fn is_blank(line: &str) -> bool
     ensures { result ≡ is_blank line.now }
 {
     line.trim_start().is_empty()
 }
 
-/// What stands before the comment, if there is one.
+/// What is before the comment, if there is one; otherwise the whole line.
 fn without_comment(line: &str) -> &str
     ensures { result.now ≡ without_comment line.now }
 {

@@ -2,11 +2,11 @@
 use Rattle.std.specs.Prelude.{ℕ, false, List, ◌∷◌, ◌++◌, sum_by, replicate, chars, unwrap_or}
 use Rattle.unicode_width.specs.Width.{char_width}
 
--- how many columns a character takes; a control takes none
+-- the number of columns of a character; a control has none
 abbrev pub char_columns : ℕ → ℕ
 char_columns c = unwrap_or (char_width false c) 0
 
--- how many columns a text takes
+-- the number of columns of a text
 unfoldable pub columns : List ℕ → ℕ
 columns text = sum_by char_columns (chars text)
 

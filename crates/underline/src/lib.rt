@@ -1,4 +1,7 @@
-//! A text with a part of it underlined, as the faults of requirements and of lists print it.
+//! A text with a part of it underlined, as the errors of requirements and of lists print it.
+//!
+//! Columns are the sum of the characters' widths, not the width of the text as a whole, which is less where
+//! characters join.
 #![tactic(auto)]
 
 ghost use Rattle.std.specs.Prelude.{◌≡◌, ◌<◌, Some, replicate};
@@ -7,8 +10,8 @@ ghost use Rattle.underline.specs.Underline.{char_columns, columns, underlined};
 use std::fmt;
 use unicode_width::UnicodeWidthChar;
 
-/// How many columns a text takes in a terminal: the sum of its characters' widths, where a control takes
-/// none.
+/// Returns the number of columns of a text in a terminal: the sum of its characters' widths, where a
+/// control has none.
 pub fn columns(text: &str) -> usize
     ensures { result ≡ columns text.now }
 {
@@ -53,7 +56,7 @@ impl fmt::Display for Underlined<'_> {
     }
 }
 
-/// An ASCII character so many times.
+/// A printer of an ASCII character, repeated `count` times.
 #[derive(Clone, Copy)]
 struct Repeated {
     mark: char,

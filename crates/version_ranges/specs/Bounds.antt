@@ -1,4 +1,5 @@
--- Sets as intervals: what a pair of bounds holds, and a set's intervals in order, read off its turns.
+-- Sets as intervals: which points a pair of bounds holds, and a set's intervals in order, read off its
+-- endpoints.
 use Rattle.std.specs.Prelude.{Bool, true, ◌&&◌, cond, List, [], ◌∷◌, Option, Some, None}
 use Rattle.std.specs.Ordering.{is_eq, is_lt}
 use Rattle.std.specs.Range.Bound.{bound_map}
@@ -31,19 +32,19 @@ module _ {T : Type 0} (cmp : T → T → Ordering) where
   single_value (At v ∷ JustAbove w ∷ []) = cond (is_eq (cmp v w)) (Some v) None
   single_value _ = None
 
--- the lower bound of what is held from a turn on
+-- the lower bound of an interval that begins at an endpoint
 abbrev pub lower_bound_at : {T : Type 0} → Point T → Bound T
 lower_bound_at BelowAll = Unbounded
 lower_bound_at (At v) = Included v
 lower_bound_at (JustAbove v) = Excluded v
 
--- the upper bound of what is held up to a turn
+-- the upper bound of an interval that ends at an endpoint
 abbrev pub upper_bound_at : {T : Type 0} → Point T → Bound T
 upper_bound_at BelowAll = Unbounded
 upper_bound_at (At v) = Excluded v
 upper_bound_at (JustAbove v) = Included v
 
--- the intervals of a set, in order: held from every other turn on, up to the next one, or without end
+-- the intervals of a set, in order: from every other endpoint on, up to the next one, or without end
 abbrev pub intervals : {T : Type 0} → List (Point T) → List (Bound T × Bound T)
 intervals [] = []
 intervals (lower ∷ []) = (lower_bound_at lower, Unbounded) ∷ []
@@ -59,6 +60,6 @@ abbrev pub hull : {T : Type 0} → List (Bound T × Bound T) → Option (Bound T
 hull [] = None
 hull (first ∷ later) = Some (first.0, last_upper first.1 later)
 
--- the bounds that a pair of borrowed bounds shows
+-- a pair of borrowed bounds as a pair of bounds
 abbrev pub lent_bounds : {T : Type 0} → Bound (Bor T) × Bound (Bor T) → Bound T × Bound T
 lent_bounds pair = (bound_map (λ x. x.now) pair.0, bound_map (λ x. x.now) pair.1)

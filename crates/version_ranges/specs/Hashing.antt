@@ -1,5 +1,5 @@
--- What a hash is fed of a boundary: its kind and its value; and of a set: its intervals in order, and an end
--- mark.
+-- The input to a hash of an endpoint: its kind and its value; and of a set: its intervals in order, and an
+-- end mark.
 use Rattle.std.specs.Prelude.{ℕ, List, ◌++◌}
 use Rattle.std.specs.declared.ops.Bound.{Bound}
 use Rattle.std.specs.declared.ops.Bound.TheVariants.{Included, Excluded, Unbounded}
@@ -11,21 +11,21 @@ use Rattle.version_ranges.specs.Point.{Point}
 use Rattle.version_ranges.specs.Bounds.{intervals}
 
 module _ {T : Type 0} (input : T → List (List ℕ)) where
-  -- what a hash is fed for a boundary: its kind, and its value
+  -- the input to a hash of an endpoint: its kind, and its value
   abbrev pub boundary_input : Boundary T → List (List ℕ)
   boundary_input (boundary.At v) = fed.u8 0 ++ input v
   boundary_input (boundary.JustAbove v) = fed.u8 1 ++ input v
 
-  -- what a hash is fed for a bound: its kind, and its value
+  -- the input to a hash of a bound: its kind, and its value
   abbrev pub bound_input : Bound T → List (List ℕ)
   bound_input Unbounded = fed.u8 0
   bound_input (Included v) = fed.u8 1 ++ input v
   bound_input (Excluded v) = fed.u8 2 ++ input v
 
-  -- what a hash is fed for an interval: both bounds
+  -- the input to a hash of an interval: both bounds
   abbrev pub interval_input : Bound T × Bound T → List (List ℕ)
   interval_input i = bound_input i.0 ++ bound_input i.1
 
-  -- what a hash is fed for a set
+  -- the input to a hash of a set
   abbrev pub ranges_input : List (Point T) → List (List ℕ)
   ranges_input set = flat_map interval_input (intervals set) ++ fed.u8 3

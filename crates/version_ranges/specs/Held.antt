@@ -1,5 +1,4 @@
--- Which points a set holds. A set is given by its turns: the points at which membership turns, in rising
--- order.
+-- Which points a set holds. The model of a set is the sorted list of endpoints at which membership flips.
 use Rattle.std.specs.Prelude.{◌≡◌, Bool, List, IsTrue}
 use Rattle.std.specs.Ordering.{is_eq}
 use Rattle.std.specs.declared.cmp.Ordering.{Ordering}
@@ -11,11 +10,12 @@ module _ {T : Type 0} (cmp : T → T → Ordering) where
   abbrev pub holds_at : List (Point T) → Point T → Bool
   holds_at set point = is_held (point_cmp cmp) set point
 
-  -- the turns rise strictly, so that each set of points has one list of them, up to the order's equality
+  -- the endpoints rise strictly, so that each set of points has one list of them, up to the order's
+  -- equality
   abbrev pub IsNormal : List (Point T) → Type 0
   IsNormal set = Rising (point_cmp cmp) set
 
-  -- the set holds a point at p or before it, and one at p or behind it
+  -- the set holds a point at p or before it, and one at p or after it
   abbrev pub IsBetweenHeld : List (Point T) → Point T → Type 0
   IsBetweenHeld set p =
       ((q : Point T) × IsTrue (holds_at set q) × IsTrue (reaches (point_cmp cmp) q p))

@@ -1,5 +1,4 @@
--- One pass over two rising lists: what is read at a time, what is written, and which memberships a
--- combination has.
+-- One pass over two rising lists: what is read and written at a time, and the memberships of a combination.
 use Rattle.std.specs.Prelude.{◌≡◌, Bool, true, false, ◌&&◌, ◌||◌, List, [], ◌∷◌, ◌++◌, IsTrue}
 use Rattle.std.specs.List.{AllByRecursion}
 use Rattle.std.specs.declared.cmp.Ordering.{Ordering}
@@ -13,18 +12,18 @@ abbrev pub combined : Combination → Bool → Bool → Bool
 combined Both x y = x && y
 combined Either x y = x || y
 
--- one that equals t in the order is taken from the front of a list, or none is
+-- one that equals t in the order is removed from the front of a list, or none is
 abbrev pub Takes : {K : Type 0} → (K → K → Ordering) → K → Bool → List K → List K → Type 0
 Takes {K} R t true list left = (x : K) × (list ≡ x ∷ left) × (R x t ≡ Equal)
 Takes R t false list left = list ≡ left
 
--- one that equals t in the order is put at the end of a list, or none is
+-- one that equals t in the order is appended to a list, or none is
 abbrev pub Adds : {K : Type 0} → (K → K → Ordering) → K → Bool → List K → List K → Type 0
 Adds {K} R t true old new = (x : K) × (new ≡ old ++ x ∷ []) × (R x t ≡ Equal)
 Adds R t false old new = new ≡ old
 
--- t is the first of two lists, as far as they rise: in_a and in_b tell which of them it stands in, and
--- left_a and left_b are left of them behind it
+-- t is the first of two lists, as far as they rise: in_a and in_b say in which of them it is, and left_a
+-- and left_b are what is left of them after it
 pub record IsFirst {K : Type 0} (R : K → K → Ordering) (a b : List K) (t : K) (in_a in_b : Bool)
     (left_a left_b : List K) : Type 0 where
   pub taken_a : Takes R t in_a a left_a

@@ -1,4 +1,4 @@
--- The orders of points, of boundaries and of sets are total.
+-- The orders of points, of endpoints and of sets are total.
 use Rattle.std.specs.Prelude.{◌≡◌, ℕ, List, [], ◌∷◌, refl}
 use Rattle.std.specs.declared.cmp.Ordering.{Ordering}
 use Rattle.std.specs.declared.cmp.Ordering.TheVariants.{Less, Equal, Greater}

@@ -1,5 +1,6 @@
 -- The points of an order: below all values, at a value, just above a value. A version order has no value
--- "just above" another, so a set that ends there is told by the points that it holds and not by its values.
+-- "just above" another, so a set that ends there is given by the points that it holds and not by its
+-- values.
 use Rattle.std.specs.declared.cmp.Ordering.{Ordering}
 use Rattle.std.specs.declared.cmp.Ordering.TheVariants.{Less, Equal, Greater}
 use Rattle.std.specs.Ordering.{ordering_then}

@@ -1,4 +1,4 @@
-//! The places at which a set begins and ends: at a value, or just above one.
+//! The endpoints of a set's intervals: at a value, or just above one.
 ghost use Rattle.std.specs.Prelude.{◌≡◌, [], ◌∷◌, IfOk, MatchOption, refl};
 ghost use Rattle.std.specs.Ordering.{eq_by_cmp, as_partial_cmp};
 ghost use Rattle.std.specs.Cmp.{eq_by_cmp_equiv, partial_equiv_from_equiv, partial_order_from_agreeing_total};
@@ -19,7 +19,7 @@ use std::cmp::Ordering;
 use std::hash::{Hash, Hasher};
 use std::ops::Bound;
 
-/// A place at which membership in a set turns: at a value, or just above one.
+/// An endpoint of a set, at which membership flips: at a value, or just above one.
 ///
 /// Equality, order and hash are those of the point: `At(v)` comes before `JustAbove(v)`, and that before
 /// `At(w)` for every `w` above `v`. Each takes one comparison or one hash of values.
@@ -30,7 +30,8 @@ pub enum Boundary<T> {
 }
 
 impl<T> Boundary<T> {
-    /// The lower bound of what is held from the boundary on.
+    /// Returns the lower bound of an interval that begins at this endpoint: `Included` of `At`, `Excluded`
+    /// of `JustAbove`.
     pub fn as_lower_bound(&self) -> Bound<&T>
         ensures { bound_map (λ v. v.now) result ≡ lower_bound_at (point_of self.now) }
     {
@@ -40,7 +41,8 @@ impl<T> Boundary<T> {
         }
     }
 
-    /// The upper bound of what is held up to the boundary.
+    /// Returns the upper bound of an interval that ends at this endpoint: `Excluded` of `At`, `Included` of
+    /// `JustAbove`.
     pub fn as_upper_bound(&self) -> Bound<&T>
         ensures { bound_map (λ v. v.now) result ≡ upper_bound_at (point_of self.now) }
     {
@@ -50,7 +52,7 @@ impl<T> Boundary<T> {
         }
     }
 
-    /// Where a lower bound begins to hold; `None` of one that holds from below all on.
+    /// Returns the endpoint at which an interval with this lower bound begins; `None` for `Unbounded`.
     pub(crate) fn from_lower_bound(bound: Bound<T>) -> Option<Self>
         ensures { MatchOption result (start_point bound ≡ BelowAll)
             (λ start. start_point bound ≡ point_of start) }
@@ -62,7 +64,7 @@ impl<T> Boundary<T> {
         }
     }
 
-    /// Where an upper bound no longer holds; `None` of one without end.
+    /// Returns the endpoint at which an interval with this upper bound ends; `None` for `Unbounded`.
     pub(crate) fn from_upper_bound(bound: Bound<T>) -> Option<Self>
         ensures { MatchOption result (end_points bound ≡ []) (λ end. end_points bound ≡ point_of end ∷ []) }
     {
@@ -75,7 +77,7 @@ impl<T> Boundary<T> {
 }
 
 impl<T: Ord> Boundary<T> {
-    /// Whether the value lies at the boundary or behind it.
+    /// Returns whether the value lies at this endpoint or above it.
     pub fn reaches(&self, value: &T) -> bool
         ensures { result ≡ reaches (point_cmp T.cmp) (point_of self.now) (At value.now) }
     {
@@ -87,7 +89,7 @@ impl<T: Ord> Boundary<T> {
 }
 
 impl<T: RangeValue> Boundary<T> {
-    /// A copy, which equals its source: the value is cloned once. The only refusal is want of memory.
+    /// Returns a copy, which equals its source: the value is cloned once. The only error is lack of memory.
     pub fn try_clone(&self, alloc: Global) -> Result<Self, AllocError>
         ensures { IfOk result (λ copy. boundary_cmp T.cmp copy self.now ≡ Equal) }
     {

@@ -1,4 +1,4 @@
-//! The intervals of a set, one after another.
+//! The intervals of a set, as an iterator.
 ghost use Rattle.std.specs.Prelude.{◌≡◌, ◌<◌, ◌+◌, ◌/◌, ◌%◌, ◌^◌, cond, length, [], ◌∷◌, map, MatchOption};
 ghost use Rattle.std.specs.Iterator.{at_most};
 ghost use Rattle.std.specs.Map.Iter.{TakesFirst, ShowsInOrder};
@@ -14,11 +14,11 @@ use crate::value::RangeValue;
 use std::marker::Model;
 use std::ops::Bound;
 
-/// The intervals of a set that are left, in order, each as its lower and its upper bound. It takes no
-/// memory.
+/// An iterator over the remaining intervals of a set in rising order, each as its lower and its upper
+/// bound. It takes no memory.
 #[derive(Drop)]
 pub struct Iter<'a, T> {
-    /// Whether the next interval begins below all.
+    /// Whether the next interval has no lower bound.
     starts_held: bool,
     boundaries: &'a [Boundary<T>],
 }
@@ -34,7 +34,8 @@ impl<'a, T> Model for Iter<'a, T> {
     ghost view = { λ iter. intervals (turns_of iter.starts_held iter.boundaries.now) };
 }
 
-/// The lower bound of the first interval, and the boundaries behind it.
+/// Returns the lower bound of the first interval, and the endpoints after it; `None` where no interval is
+/// left.
 fn split_lower<T>(
     starts_held: bool,
     boundaries: &[Boundary<T>],
@@ -50,7 +51,7 @@ fn split_lower<T>(
     Some((start.as_lower_bound(), later))
 }
 
-/// The upper bound of an interval that has begun, and the boundaries behind it.
+/// Returns the upper bound of an interval that has begun, and the endpoints after it.
 fn split_upper<T>(boundaries: &[Boundary<T>]) -> (Bound<&T>, &[Boundary<T>])
     ensures { (start : Point T) → intervals (start ∷ map point_of boundaries.now)
         ≡ (lower_bound_at start, bound_map (λ v. v.now) result.0) ∷ intervals (map point_of result.1.now) }
@@ -61,7 +62,8 @@ fn split_upper<T>(boundaries: &[Boundary<T>]) -> (Bound<&T>, &[Boundary<T>])
     }
 }
 
-/// How many intervals begin and end at so many boundaries.
+/// Returns the number of intervals that `boundaries` endpoints delimit, the first of which has no lower bound
+/// where `starts_held`.
 fn count_intervals(starts_held: bool, boundaries: usize) -> usize
     ensures { result ≡ boundaries / 2 + cond starts_held 1 (boundaries % 2) }
 {
@@ -94,8 +96,8 @@ impl<'a, T> Iterator for Iter<'a, T> {
 }
 
 impl<T: RangeValue> Ranges<T> {
-    /// The intervals of the set, in order: none is empty, and no two of them touch. They can be counted.
-    /// It takes no memory.
+    /// Returns an iterator over the intervals of the set, in rising order: none is empty, and no two of
+    /// them touch. `size_hint` is exact. It takes no memory.
     pub fn iter(&self) -> Iter<'_, T>
         ensures intervals { result ≡ intervals self.now }
         ensures runs { ShowsInOrder (lent_bounds {T = T}) }
@@ -103,7 +105,7 @@ impl<T: RangeValue> Ranges<T> {
         ensures fits { length (intervals self.now) < 2 ^ 64 }
     {
         let (starts_held, boundaries) = self.turns();
-        // As a `usize` counts boundaries, it counts intervals: clause `fits`.
+        // As a `usize` counts the endpoints, it counts the intervals: clause `fits`.
         let _count = count_intervals(starts_held, boundaries.len());
         Iter {
             starts_held,

@@ -15,25 +15,25 @@ ghost use Rattle.version_ranges.specs.Hashing.{ranges_input};
 use crate::ranges::Ranges;
 use crate::value::RangeValue;
 
-/// Points are in a total order, as the values are.
+/// Points are totally ordered, as the values are.
 pub fn points_are_ordered<T: Ord>()
     ensures { IsTotalOrder (point_cmp T.cmp) }
 {}
 
-/// Each set of points has one normal form: two rising lists of turns that hold the same points are equal,
-/// turn by turn.
+/// Each set of points has one normal form: two rising lists of endpoints that hold the same points are
+/// equal, endpoint by endpoint.
 pub fn normal_form_is_unique<T: Ord>()
     ensures { (a b : List (Point T)) → IsNormal T.cmp a → IsNormal T.cmp b →
         HoldSamePoints T.cmp a b → slice_cmp (point_cmp T.cmp) a b ≡ Equal }
 {}
 
-/// Sets are equal in their order exactly when they hold the same points.
+/// Sets compare as equal exactly when they hold the same points.
 pub fn order_agrees_with_points<T: Ord>()
     ensures { (a b : List (Point T)) → IsNormal T.cmp a → IsNormal T.cmp b →
         (ranges_cmp T.cmp a b ≡ Equal) ↔ HoldSamePoints T.cmp a b }
 {}
 
-/// Sets that hold the same points feed the same to a hash.
+/// Sets that hold the same points hash alike.
 pub fn same_points_hash_alike<T: RangeValue>()
     ensures { (a b : List (Point T)) → IsNormal T.cmp a → IsNormal T.cmp b →
         HoldSamePoints T.cmp a b → ranges_input T.hash_input a ≡ ranges_input T.hash_input b }
@@ -53,15 +53,15 @@ pub fn intervals_are_apart<T: Ord>()
         IsTrue (is_within T.cmp i p) → ¬ (IsTrue (is_within T.cmp j p)) }
 {}
 
-/// From the first interval's lower bound to the last one's upper bound lie just the points that have a held
-/// point at or before them and one at or behind them; there are no such bounds of the empty set alone.
+/// The points between the first interval's lower bound and the last one's upper bound are just those with a
+/// held point at or before them and one at or after them; only the empty set has no such bounds.
 pub fn hull_spans_the_set<T: Ord>()
     ensures { (set : List (Point T)) → IsNormal T.cmp set →
         MatchOption (hull (intervals set)) (set ≡ [])
         (λ bounds. (p : Point T) → IsTrue (is_within T.cmp bounds p) ↔ IsBetweenHeld T.cmp set p) }
 {}
 
-/// The turns of every set rise strictly.
+/// The endpoints of every set rise strictly.
 pub fn every_set_is_normal<T: RangeValue>(set: &Ranges<T>)
     ensures { IsNormal T.cmp set.now }
 {

@@ -1,7 +1,7 @@
 #![tactic(auto)]
-//! Sets of intervals over any lawful order, as version specifiers and marker trees stand on them.
+//! Sets of intervals over any lawful order: the base of version ranges and of the edges of marker trees.
 //!
-//! A set is told by the points that it holds: below all values, at a value, and just above a value. Two
+//! A set is given by the points that it holds: below all values, at a value, and just above a value. Two
 //! sets are equal exactly when they hold the same points, also where no value may lie between their bounds.
 //!
 //! ```text

@@ -1,4 +1,7 @@
-//! One pass over the boundaries of two sets, and the combinations that it makes.
+//! One pass over the endpoints of two sets, and the intersection and union that it makes.
+//!
+//! Finding the next boundary of two lists is apart from what is done with it: `merged` writes a boundary
+//! where membership in the combination changes.
 ghost use Rattle.std.specs.Prelude.{◌≡◌, true, [], IfOk, OnOk, MatchOption};
 ghost use Rattle.version_ranges.specs.Point.{Point};
 ghost use Rattle.version_ranges.specs.Held.{holds_at};
@@ -11,24 +14,24 @@ use crate::value::RangeValue;
 use std::alloc::{AllocError, Global};
 use std::cmp::Ordering;
 
-/// The first boundary of two rising lists.
+/// The least endpoint of two rising lists, and what is left of both lists after it.
 ///
-/// Where both lists begin with boundaries that are equal, it is the first list's, and neither is left.
+/// Where both lists begin with equal endpoints, `boundary` is the first list's, and both go on after it.
 #[derive(Drop)]
 pub struct NextBoundary<'a, T> {
     pub boundary: &'a Boundary<T>,
-    /// Whether it, or one that equals it, stood in the first list.
+    /// Whether this endpoint, or one that equals it, was in the first list.
     pub in_first: bool,
-    /// Whether it, or one that equals it, stood in the second list.
+    /// Whether this endpoint, or one that equals it, was in the second list.
     pub in_second: bool,
-    /// What is left of the first list behind it.
+    /// The endpoints of the first list after it.
     pub first: &'a [Boundary<T>],
-    /// What is left of the second list behind it.
+    /// The endpoints of the second list after it.
     pub second: &'a [Boundary<T>],
 }
 
-/// The first boundary of two rising lists, and what is left of each; `None` where both are empty. It
-/// compares two boundaries at most, and takes no memory.
+/// Returns the least endpoint of two rising lists, and what is left of each; `None` where both are empty.
+/// It makes at most one comparison of endpoints, and takes no memory.
 pub fn next_boundary<'a, T: Ord>(
     first: &'a [Boundary<T>],
     second: &'a [Boundary<T>],
@@ -79,7 +82,7 @@ pub fn next_boundary<'a, T: Ord>(
     }
 }
 
-/// Which points of two sets a combination holds: those of both, or those of either.
+/// Which points of two sets a combination holds: those in both, or those in either.
 #[derive(Clone, Copy)]
 pub(crate) enum Combination {
     Both,
@@ -97,7 +100,7 @@ impl Combination {
     }
 }
 
-/// Puts a copy of the boundary behind the others, where membership changes there.
+/// Appends a copy of the endpoint, where membership changes there.
 fn push_if<T: RangeValue>(
     alloc: Global,
     boundaries: &mut Vec<Boundary<T>>,
@@ -113,7 +116,7 @@ fn push_if<T: RangeValue>(
     Ok(())
 }
 
-/// A combination of two sets, by one pass over the boundaries of both.
+/// Returns the combination of two sets, by one pass over the endpoints of both.
 pub(crate) fn merged<T: RangeValue>(
     alloc: Global,
     combination: Combination,

@@ -1,5 +1,5 @@
 //! Equality, order and hash of sets. None of them takes memory, and each is at most linear in the sets'
-//! boundaries.
+//! endpoints.
 ghost use Rattle.std.specs.Prelude.{◌≡◌, true, false, cond, List, IsTrue, ◌↔◌, fold, refl};
 ghost use Rattle.std.specs.Ordering.{eq_by_cmp, as_partial_cmp};
 ghost use Rattle.std.specs.Range.Bound.{bound_map};
@@ -50,9 +50,9 @@ impl<T: RangeValue> PartialOrd for Ranges<T> {
     }
 }
 
-/// The order of two sets that both hold the point below all, or both don't: the first boundaries that
-/// differ decide. Where one set has no further boundary, it comes last if an interval is open there, since
-/// that has no end, and else first, since it has fewer intervals.
+/// Compares two sets that both hold the point below all, or both don't: the first endpoints that differ
+/// decide. Where one set has no further endpoint, it comes last if an interval is open there, since that
+/// has no end, and else first, since it has fewer intervals.
 fn compare_boundaries<T: Ord>(
     starts_held: bool,
     boundaries: &[Boundary<T>],
@@ -82,7 +82,7 @@ fn compare_boundaries<T: Ord>(
     }
 }
 
-/// How the set that ends first compares with the other.
+/// Returns how the set whose endpoints end first compares with the other.
 fn when_first_ends(inside: bool) -> Ordering
     ensures { result ≡ cond inside Greater Less }
 {
@@ -93,7 +93,7 @@ fn when_first_ends(inside: bool) -> Ordering
     }
 }
 
-/// The order of a set that holds the point below all and one that doesn't, which has these boundaries.
+/// Compares a set that holds the point below all with one that doesn't, whose endpoints these are.
 fn compare_from_below<T: Ord>(others: &[Boundary<T>]) -> Ordering
     ensures { (boundaries : List (Boundary T)) →
         result ≡ ranges_cmp T.cmp (turns_of true boundaries) (turns_of false others.now) }

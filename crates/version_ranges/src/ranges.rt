@@ -1,4 +1,9 @@
-//! Sets of intervals: makers, questions and combinations.
+//! Sets of intervals: constructors, queries and combinations.
+//!
+//! The model of a set is the sorted list of endpoints at which membership flips. It is stored as a sign
+//! (whether the point below all values is held) and a strictly rising list of boundaries; `Ranges::turns`
+//! borrows both, since trees over versions are made of such lists. A complement is a copy with the other
+//! sign. Which of two equal values a combination keeps is left open.
 ghost use Rattle.std.specs.Prelude.{◌≡◌, true, false, not, ◌&&◌, ◌||◌, ◌↔◌, [], ◌∷◌, IfOk, IsTrue};
 ghost use Rattle.std.specs.Prelude.{MatchOption, map};
 ghost use Rattle.std.specs.Option.{option_map};
@@ -20,16 +25,15 @@ use std::alloc::{AllocError, Global};
 use std::marker::Model;
 use std::ops::Bound;
 
-/// A set of points of an order, kept as the boundaries of its intervals.
+/// A set of points of an order, kept as the endpoints of its intervals.
 ///
-/// Clauses see a set as the list of its turns: the points, in rising order, from each of which on
-/// membership is the other way. `holds_at` tells which points a set holds; two sets that hold the same
-/// points are equal.
+/// The model of a set is the sorted list of endpoints at which membership flips. `holds_at` says which
+/// points a set holds; two sets that hold the same points are equal.
 #[derive(Drop)]
 pub struct Ranges<T: RangeValue> {
     /// Whether the set holds the point below all.
     pub(crate) starts_held: bool,
-    /// Where membership turns, in rising order.
+    /// The endpoints at which membership flips, in rising order.
     pub(crate) boundaries: Vec<Boundary<T>>,
 }
 
@@ -47,8 +51,8 @@ impl<T: RangeValue> Model for Ranges<T> {
 }
 
 impl<T: RangeValue> Ranges<T> {
-    /// Whether the set holds the point below all, and the boundaries, in rising order, at each of which
-    /// membership turns. It takes no memory and constant time.
+    /// Returns whether the set holds the point below all, and its endpoints, in rising order, at each of
+    /// which membership flips. It takes no memory and constant time.
     pub fn turns(&self) -> (bool, &[Boundary<T>])
         ensures turns { turns_of result.0 result.1.now ≡ self.now }
         ensures normal { IsNormal T.cmp self.now }
@@ -57,7 +61,7 @@ impl<T: RangeValue> Ranges<T> {
         (self.starts_held, &self.boundaries)
     }
 
-    /// The set that turns at one boundary.
+    /// Returns the set with one endpoint.
     fn with_turn(
         alloc: Global,
         starts_held: bool,
@@ -73,7 +77,7 @@ impl<T: RangeValue> Ranges<T> {
         })
     }
 
-    /// The set that turns at copies of the boundaries. Each value is cloned once.
+    /// Returns the set whose endpoints are copies of these. Each value is cloned once.
     fn copied(
         alloc: Global,
         starts_held: bool,
@@ -88,7 +92,7 @@ impl<T: RangeValue> Ranges<T> {
         })
     }
 
-    /// The set that is held from one boundary on, up to another.
+    /// Returns the set of all points from one endpoint on, up to another.
     fn between(alloc: Global, start: Boundary<T>, end: Boundary<T>) -> Result<Self, AllocError>
         requires { boundary_cmp T.cmp start end ≡ Less }
         ensures { IfOk result (λ set. set ≡ turns_of false (start ∷ end ∷ [])) }
@@ -104,9 +108,9 @@ impl<T: RangeValue> Ranges<T> {
     }
 }
 
-/// Makers.
+/// Constructors.
 impl<T: RangeValue> Ranges<T> {
-    /// The set without a point. It takes no memory.
+    /// Returns the set without a point. It takes no memory.
     pub fn empty(alloc: Global) -> Self
         ensures { (p : Point T) → holds_at T.cmp result p ≡ false }
     {
@@ -116,7 +120,7 @@ impl<T: RangeValue> Ranges<T> {
         }
     }
 
-    /// The set of all points. It takes no memory.
+    /// Returns the set of all points. It takes no memory.
     pub fn full(alloc: Global) -> Result<Self, AllocError>
         ensures { IfOk result (λ set. (p : Point T) → holds_at T.cmp set p ≡ true) }
     {
@@ -126,7 +130,8 @@ impl<T: RangeValue> Ranges<T> {
         })
     }
 
-    /// The set of one point, at the value. The value is cloned once, since it bounds the set on both sides.
+    /// Returns the set of one point, at the value. The value is cloned once, since it bounds the set on
+    /// both sides.
     pub fn singleton(alloc: Global, value: T) -> Result<Self, AllocError>
         ensures { IfOk result (λ set. HoldsOnly T.cmp value set) }
     {
@@ -134,7 +139,7 @@ impl<T: RangeValue> Ranges<T> {
         Self::between(alloc, Boundary::At(value), Boundary::JustAbove(copy))
     }
 
-    /// What is at the value or above it.
+    /// Returns the set of what is at the value or above it.
     pub fn higher_than(alloc: Global, value: T) -> Result<Self, AllocError>
         ensures { IfOk result (λ set. (p : Point T) →
             holds_at T.cmp set p ≡ starts_by T.cmp (Included value) p) }
@@ -142,7 +147,7 @@ impl<T: RangeValue> Ranges<T> {
         Self::from_range_bounds(alloc, (Bound::Included(value), Bound::Unbounded))
     }
 
-    /// What is above the value.
+    /// Returns the set of what is above the value.
     pub fn strictly_higher_than(alloc: Global, value: T) -> Result<Self, AllocError>
         ensures { IfOk result (λ set. (p : Point T) →
             holds_at T.cmp set p ≡ starts_by T.cmp (Excluded value) p) }
@@ -150,7 +155,7 @@ impl<T: RangeValue> Ranges<T> {
         Self::from_range_bounds(alloc, (Bound::Excluded(value), Bound::Unbounded))
     }
 
-    /// What is at the value or below it.
+    /// Returns the set of what is at the value or below it.
     pub fn lower_than(alloc: Global, value: T) -> Result<Self, AllocError>
         ensures { IfOk result (λ set. (p : Point T) →
             holds_at T.cmp set p ≡ goes_on_to T.cmp (Included value) p) }
@@ -158,7 +163,7 @@ impl<T: RangeValue> Ranges<T> {
         Self::from_range_bounds(alloc, (Bound::Unbounded, Bound::Included(value)))
     }
 
-    /// What is below the value.
+    /// Returns the set of what is below the value.
     pub fn strictly_lower_than(alloc: Global, value: T) -> Result<Self, AllocError>
         ensures { IfOk result (λ set. (p : Point T) →
             holds_at T.cmp set p ≡ goes_on_to T.cmp (Excluded value) p) }
@@ -166,8 +171,8 @@ impl<T: RangeValue> Ranges<T> {
         Self::from_range_bounds(alloc, (Bound::Unbounded, Bound::Excluded(value)))
     }
 
-    /// What lies between a lower and an upper bound; the empty set where the lower one is not below the
-    /// upper one.
+    /// Returns the set of what lies between a lower and an upper bound; the empty set where the lower one
+    /// is not below the upper one.
     pub fn from_range_bounds(
         alloc: Global,
         bounds: (Bound<T>, Bound<T>),
@@ -192,7 +197,7 @@ impl<T: RangeValue> Ranges<T> {
         }
     }
 
-    /// A copy, which equals its source. Each value is cloned once.
+    /// Returns a copy, which equals its source. Each value is cloned once.
     pub fn try_clone(&self, alloc: Global) -> Result<Self, AllocError>
         ensures { IfOk result (λ copy. HoldSamePoints T.cmp copy self.now) }
     {
@@ -201,9 +206,9 @@ impl<T: RangeValue> Ranges<T> {
     }
 }
 
-/// Combinations: each takes one pass over its sets, and clones each boundary that the result keeps once.
+/// Combinations: each makes one pass over its sets, and clones each endpoint that the result keeps once.
 impl<T: RangeValue> Ranges<T> {
-    /// The points that the set does not hold: one copy of the boundaries.
+    /// Returns the set of the points that this one does not hold, with one copy of the endpoints.
     pub fn complement(&self, alloc: Global) -> Result<Self, AllocError>
         ensures { IfOk result (λ set. (p : Point T) →
             holds_at T.cmp set p ≡ not (holds_at T.cmp self.now p)) }
@@ -212,7 +217,7 @@ impl<T: RangeValue> Ranges<T> {
         Self::copied(alloc, !starts_held, boundaries)
     }
 
-    /// The points that both sets hold. Linear in the boundaries of the two.
+    /// Returns the set of the points that both sets hold. Linear in the endpoints of the two.
     pub fn intersection(&self, alloc: Global, other: &Self) -> Result<Self, AllocError>
         ensures { IfOk result (λ set. (p : Point T) →
             holds_at T.cmp set p ≡ (holds_at T.cmp self.now p && holds_at T.cmp other.now p)) }
@@ -220,7 +225,7 @@ impl<T: RangeValue> Ranges<T> {
         merged(alloc, Combination::Both, self, other)
     }
 
-    /// The points that either set holds. Linear in the boundaries of the two.
+    /// Returns the set of the points that either set holds. Linear in the endpoints of the two.
     pub fn union(&self, alloc: Global, other: &Self) -> Result<Self, AllocError>
         ensures { IfOk result (λ set. (p : Point T) →
             holds_at T.cmp set p ≡ (holds_at T.cmp self.now p || holds_at T.cmp other.now p)) }
@@ -229,9 +234,9 @@ impl<T: RangeValue> Ranges<T> {
     }
 }
 
-/// Questions: none takes memory.
+/// Queries: none takes memory.
 impl<T: RangeValue> Ranges<T> {
-    /// Whether the set holds the point at the value. The boundaries are searched by halves.
+    /// Returns whether the set holds the point at the value, by binary search in the endpoints.
     pub fn contains(&self, value: &T) -> bool
         ensures { result ≡ holds_at T.cmp self.now (At value.now) }
     {
@@ -240,7 +245,7 @@ impl<T: RangeValue> Ranges<T> {
         starts_held != (reached % 2 == 1)
     }
 
-    /// Whether the set holds no point. A set may hold points and contain no value.
+    /// Returns whether the set holds no point. A set may hold points and contain no value.
     pub fn is_empty(&self) -> bool
         ensures { IsTrue result ↔ ((p : Point T) → holds_at T.cmp self.now p ≡ false) }
     {
@@ -251,7 +256,7 @@ impl<T: RangeValue> Ranges<T> {
         boundaries.is_empty()
     }
 
-    /// The value, where the set holds the point at one value and no other.
+    /// Returns the value, where the set holds the point at one value and no other.
     pub fn as_singleton(&self) -> Option<&T>
         ensures value { option_map (λ v. v.now) result ≡ single_value T.cmp self.now }
         ensures points { MatchOption result
@@ -265,7 +270,8 @@ impl<T: RangeValue> Ranges<T> {
         }
     }
 
-    /// From the lower bound of the first interval to the upper bound of the last; `None` of the empty set.
+    /// Returns the lower bound of the first interval and the upper bound of the last; `None` for the empty
+    /// set.
     pub fn bounding_range(&self) -> Option<(Bound<&T>, Bound<&T>)>
         ensures { option_map lent_bounds result ≡ hull (intervals self.now) }
     {
@@ -275,7 +281,7 @@ impl<T: RangeValue> Ranges<T> {
     }
 }
 
-/// Copies, each of which equals its source.
+/// Copies the endpoints: each copy equals its source.
 fn copies<T: RangeValue>(
     alloc: Global,
     boundaries: &[Boundary<T>],
@@ -289,7 +295,7 @@ fn copies<T: RangeValue>(
     Ok(copies)
 }
 
-/// The value, where there are two boundaries, at it and just above it.
+/// Returns the value, where there are exactly two endpoints, at it and just above it.
 fn only_value<T: Ord>(boundaries: &[Boundary<T>]) -> Option<&T>
     ensures { option_map (λ v. v.now) result ≡ single_value T.cmp (map point_of boundaries.now) }
 {
@@ -305,7 +311,7 @@ fn only_value<T: Ord>(boundaries: &[Boundary<T>]) -> Option<&T>
     }
 }
 
-/// The upper bound of the last interval.
+/// Returns the upper bound of the last interval; `Unbounded` where there is none.
 fn last_upper_bound<T>(starts_held: bool, boundaries: &[Boundary<T>]) -> Bound<&T>
     ensures { bound_map (λ v. v.now) result ≡
         last_upper Unbounded (intervals (turns_of starts_held boundaries.now)) }

@@ -1,4 +1,4 @@
-//! What may bound an interval.
+//! Values that may bound an interval.
 ghost use Rattle.std.specs.Prelude.{◌≡◌, IfOk};
 ghost use Rattle.std.specs.declared.cmp.Ordering.TheVariants.{Equal};
 
@@ -7,10 +7,11 @@ use std::hash::Hash;
 
 /// A value that may bound an interval: it has a total order, a hash and a copy that equals its source.
 ///
-/// Nothing else is used of the order, above all no value between two others. Values that are equal may
-/// still differ, as versions that are spelled in two ways: which of them a set keeps is left open.
+/// Nothing else of the order is used, above all not that a value lies between two others. Values that are
+/// equal may still differ, as versions that are spelled in two ways: which of them a set keeps is left
+/// open.
 pub trait RangeValue: Ord + Hash + Drop {
-    /// A copy, which equals its source. The only refusal is want of memory.
+    /// Returns a copy, which equals its source. The only error is lack of memory.
     fn try_clone(&self, alloc: Global) -> Result<Self, AllocError>
         ensures { IfOk result (λ copy. Self.cmp copy self.now ≡ Equal) };
 }

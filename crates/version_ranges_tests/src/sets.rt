@@ -40,18 +40,18 @@ fn hash_of(set: &Set) -> u64 {
     hasher.finish()
 }
 
-/// From `lower` on, up to and without `upper`.
+/// Returns the set from `lower` on, up to and without `upper`.
 fn span(alloc: Global, lower: u32, upper: u32) -> Result<Set, AllocError> {
     let bounds = (Bound::Included(at(lower)), Bound::Excluded(at(upper)));
     Ranges::from_range_bounds(alloc, bounds)
 }
 
-/// From 1 to below 2, and from 3 to below 4.
+/// Returns the set from 1 to below 2, and from 3 to below 4.
 fn two(alloc: Global) -> Result<Set, AllocError> {
     span(alloc, 1, 2)?.union(alloc, &span(alloc, 3, 4)?)
 }
 
-/// All up to a value, and all above it.
+/// Returns the union of all up to a value and all above it.
 fn joined(alloc: Global, rank: u32) -> Result<Set, AllocError> {
     let above = Ranges::strictly_higher_than(alloc, at(rank))?;
     Ranges::lower_than(alloc, at(rank))?.union(alloc, &above)
@@ -67,7 +67,7 @@ fn touching_sets_join(rt: HostRuntime) -> Result<(), Fail> {
     Ok(())
 }
 
-/// What lies above one value and below another.
+/// Returns the set of what lies above one value and below another.
 fn gap(alloc: Global, lower: u32, upper: u32) -> Result<Set, AllocError> {
     let below = Ranges::strictly_lower_than(alloc, at(upper))?;
     Ranges::strictly_higher_than(alloc, at(lower))?.intersection(alloc, &below)
@@ -86,7 +86,7 @@ fn text(alloc: Global, letters: &str) -> Result<String, AllocError> {
     String::from_str(alloc, letters)
 }
 
-/// Whether all texts but one hold another.
+/// Returns whether the set of all texts but one contains another.
 fn is_other(alloc: Global, value: &str, other: &str) -> Result<bool, AllocError> {
     let others = Ranges::singleton(alloc, text(alloc, value)?)?.complement(alloc)?;
     Ok(others.contains(&text(alloc, other)?))
@@ -121,7 +121,7 @@ fn a_single_value_is_told(rt: HostRuntime) -> Result<(), Fail> {
     Ok(())
 }
 
-/// Whether these bounds are those from one value on to below another.
+/// Returns whether these bounds are those from one value on to below another.
 fn are_bounds(bounds: Option<(Bound<&Spelled>, Bound<&Spelled>)>, lower: u32, upper: u32) -> bool {
     match bounds {
         Some((Bound::Included(start), Bound::Excluded(end))) => {
@@ -148,7 +148,7 @@ fn is_below(lower: &Set, higher: &Set) -> bool {
     lower.cmp(higher) == Ordering::Less && higher.partial_cmp(lower) == Some(Ordering::Greater)
 }
 
-/// Six sets, each below the next.
+/// Returns the set of a place among six sets, each of which is below the next.
 fn in_order(alloc: Global, place: u8) -> Result<Set, AllocError> {
     match place {
         0 => Ok(Ranges::empty(alloc)),
@@ -183,12 +183,12 @@ fn values_are_compared_and_joined_by_their_order(rt: HostRuntime) -> Result<(), 
     Ok(())
 }
 
-/// At a value, and just above it.
+/// Returns the endpoints at a value and just above it.
 fn ends(rank: u32) -> [Boundary<Spelled>; 2] {
     [Boundary::At(at(rank)), Boundary::JustAbove(at(rank))]
 }
 
-/// Whether the set is kept as no sign and the boundaries.
+/// Returns whether the set starts with no point held and has exactly these endpoints.
 fn is_kept(set: &Set, boundaries: &[Boundary<Spelled>]) -> bool {
     let (starts_held, kept) = set.turns();
     !starts_held && kept == boundaries
@@ -214,7 +214,8 @@ fn boundaries_are_ordered_as_points(rt: HostRuntime) -> Result<(), Fail> {
     Ok(())
 }
 
-/// How many intervals an iterator says that it has left, where it has so many.
+/// Returns the number of intervals that an iterator says it has left, where its lower and upper bound
+/// agree.
 fn count_left(set: &Set) -> Option<usize> {
     let (least, most) = set.iter().size_hint();
     let count = set.iter().count();

@@ -1,4 +1,8 @@
-//! Local parts.
+//! Reading local parts.
+//!
+//! A segment of digits above 2^64 - 1 is a text and keeps its zeros; any other number that large is
+//! refused. `1.0+a.` could be read as `1.0+a` with a dot left over; it is no version either way, and the
+//! fault says that a letter or digit is missing after the separator.
 
 ghost use Rattle.std.specs.Prelude.{◌≡◌, ◌^◌, ◌&&◌, if◌then◌else◌, nat_lt, length, drop, map, IfOk};
 ghost use Rattle.std.specs.Prelude.{Some, None};
@@ -18,7 +22,7 @@ use super::suffix::is_separator;
 use crate::{FaultKind, LocalSegment, ReadError};
 use std::alloc::{AllocError, Global};
 
-/// The letters and digits at the front, and the bytes behind them.
+/// Returns the letters and digits at the front, and the bytes after them.
 fn split_letters(bytes: &[u8]) -> (&[u8], &[u8])
     ensures letters { result.0.now ≡ take_while is_ascii_alphanumeric bytes.now }
     ensures rest { result.1.now ≡ drop (prefix_len is_ascii_alphanumeric bytes.now) bytes.now }
@@ -31,7 +35,7 @@ fn split_letters(bytes: &[u8]) -> (&[u8], &[u8])
     bytes.split_at(count)
 }
 
-/// The number that letters and digits are, if 64 bits hold it.
+/// Returns the number that the letters and digits are, where they are all digits and it fits 64 bits.
 fn whole_number(letters: &[u8]) -> Option<u64>
     ensures { result ≡ (if all_ascii_digits letters.now && nat_lt (digits_value 10 letters.now) (2 ^ 64)
         then Some (digits_value 10 letters.now) else None) }
@@ -40,7 +44,7 @@ fn whole_number(letters: &[u8]) -> Option<u64>
     if rest.is_empty() { value(digits) } else { None }
 }
 
-/// Letters and digits as a text in lower case.
+/// Returns letters and digits as a text in lower case.
 fn lower(alloc: Global, letters: &[u8]) -> Result<String, AllocError>
     requires { IsAscii letters.now }
     ensures { IfOk result (λ text. string_bytes text ≡ map to_ascii_lowercase letters.now) }
@@ -51,7 +55,7 @@ fn lower(alloc: Global, letters: &[u8]) -> Result<String, AllocError>
     }
 }
 
-/// The segment at the front, of which there has to be one.
+/// Reads the segment at the front, which has to be there, and returns it with the bytes after it.
 #[tactic(auto, unfolding(crate::specs::Reading::segment_at))]
 fn segment(alloc: Global, bytes: &[u8]) -> Result<(LocalSegment, &[u8]), ReadError>
     ensures { Answers (λ found. (segment_of found.0, found.1.now)) told_read result (segment_at bytes.now) }
@@ -69,7 +73,7 @@ fn segment(alloc: Global, bytes: &[u8]) -> Result<(LocalSegment, &[u8]), ReadErr
     }
 }
 
-/// Segments with separators between them.
+/// Reads segments with separators between them, and returns them with the bytes after them.
 fn segments(alloc: Global, bytes: &[u8]) -> Result<(Vec<LocalSegment>, &[u8]), ReadError>
     ensures { Answers (λ found. (map segment_of found.0.items, found.1.now)) told_read result
         (segments_at (length bytes.now) bytes.now) }
@@ -96,7 +100,7 @@ fn segments(alloc: Global, bytes: &[u8]) -> Result<(Vec<LocalSegment>, &[u8]), R
     Err(ReadError::Fault(fault(FaultKind::LocalEmpty, rest)))
 }
 
-/// The segments of a local part, none where there is no `+`.
+/// Reads the segments of a local part, none where there is no `+`, and returns them with the bytes after it.
 #[tactic(auto, unfolding(crate::specs::Reading::local_at))]
 pub(super) fn local(alloc: Global, bytes: &[u8]) -> Result<(Vec<LocalSegment>, &[u8]), ReadError>
     ensures { Answers (λ found. (map segment_of found.0.items, found.1.now)) told_read result

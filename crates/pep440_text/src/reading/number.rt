@@ -1,4 +1,4 @@
-//! Numbers, and numbers with dots between them.
+//! Reading numbers, and numbers with dots between them.
 
 ghost use Rattle.std.specs.Prelude.{◌≡◌, ◌<◌, ◌^◌, nat_lt, if◌then◌else◌, [], ◌∷◌, length, Some, None, Err};
 ghost use Rattle.std.specs.Prelude.{IfOk};
@@ -13,7 +13,7 @@ use super::fault;
 use crate::{FaultKind, ReadError, TextFault};
 use std::alloc::Global;
 
-/// The digits at the front, and the bytes behind them.
+/// Returns the digits at the front, and the bytes after them.
 pub(super) fn split_digits(bytes: &[u8]) -> (&[u8], &[u8])
     ensures digits { result.0.now ≡ leading_digits bytes.now }
     ensures rest { result.1.now ≡ behind_digits bytes.now }
@@ -26,7 +26,7 @@ pub(super) fn split_digits(bytes: &[u8]) -> (&[u8], &[u8])
     bytes.split_at(count)
 }
 
-/// The value of digits, where 64 bits hold it.
+/// Returns the value of the digits, where it fits 64 bits.
 pub(super) fn value(digits: &[u8]) -> Option<u64>
     requires { AllDigits 10 digits.now }
     ensures { result ≡ (if nat_lt (digits_value 10 digits.now) (2 ^ 64)
@@ -41,7 +41,7 @@ pub(super) fn value(digits: &[u8]) -> Option<u64>
     Some(total)
 }
 
-/// The value of the digits that stand at the front of some bytes, where there are any.
+/// Returns the value of the digits at the front of some bytes, where there are any.
 fn number_of(bytes: &[u8], digits: &[u8]) -> Result<Option<u64>, TextFault>
     requires { AllDigits 10 digits.now }
     ensures { Answers (λ number. number) Some result (number_of bytes.now digits.now) }
@@ -55,7 +55,7 @@ fn number_of(bytes: &[u8], digits: &[u8]) -> Result<Option<u64>, TextFault>
     }
 }
 
-/// The number at the front, where there is one.
+/// Reads the number at the front, where there is one, and returns it with the bytes after it.
 #[tactic(auto, unfolding(crate::specs::Reading::number_at))]
 pub(super) fn number(bytes: &[u8]) -> Result<(Option<u64>, &[u8]), TextFault>
     ensures { Answers (λ found. (found.0, found.1.now)) Some result (number_at bytes.now) }
@@ -65,7 +65,7 @@ pub(super) fn number(bytes: &[u8]) -> Result<(Option<u64>, &[u8]), TextFault>
     Ok((number, rest))
 }
 
-/// A byte and a number, where there are both.
+/// Reads a byte and a number after it, where there are both, and returns the number with the bytes after it.
 #[tactic(auto, unfolding(crate::specs::Reading::marked_number_at))]
 pub(super) fn marked_number(mark: u8, bytes: &[u8]) -> Result<(Option<u64>, &[u8]), TextFault>
     ensures { Answers (λ found. (found.0, found.1.now)) Some result (marked_number_at mark bytes.now) }
@@ -83,7 +83,7 @@ pub(super) fn marked_number(mark: u8, bytes: &[u8]) -> Result<(Option<u64>, &[u8
     }
 }
 
-/// The number before a `!`, where there are both.
+/// Reads the number before a `!`, where there are both, and returns it with the bytes after the `!`.
 #[tactic(auto, unfolding(crate::specs::Reading::epoch_at))]
 pub(super) fn epoch(bytes: &[u8]) -> Result<(Option<u64>, &[u8]), TextFault>
     ensures { Answers (λ found. (found.0, found.1.now)) Some result (epoch_at bytes.now) }
@@ -101,7 +101,8 @@ pub(super) fn epoch(bytes: &[u8]) -> Result<(Option<u64>, &[u8]), TextFault>
     }
 }
 
-/// A first number, and those behind dots as long as there are any.
+/// Reads the numbers after a first one, as long as dots with numbers follow, and returns them all with the
+/// bytes after them.
 fn numbers(alloc: Global, first: u64, bytes: &[u8]) -> Result<(Vec<u64>, &[u8]), ReadError>
     ensures { Answers (λ found. (found.0.items, found.1.now)) told_read result
         (with_front (first ∷ []) (numbers_at (length bytes.now) bytes.now)) }
@@ -123,7 +124,7 @@ fn numbers(alloc: Global, first: u64, bytes: &[u8]) -> Result<(Vec<u64>, &[u8]),
     Ok((numbers, rest))
 }
 
-/// The numbers of a release.
+/// Reads the numbers of a release, and returns them with the bytes after them.
 #[tactic(auto, unfolding(crate::specs::Reading::release_at))]
 pub(super) fn release(alloc: Global, bytes: &[u8]) -> Result<(Vec<u64>, &[u8]), ReadError>
     ensures release { Answers (λ found. (found.0.items, found.1.now)) told_read result

@@ -1,4 +1,4 @@
-//! Pre-releases, post-releases and developmental releases.
+//! Reading pre-releases, post-releases and developmental releases.
 
 ghost use Rattle.std.specs.Prelude.{◌≡◌, map, Some};
 ghost use Rattle.std.specs.Option.{option_map, option_copied};
@@ -10,14 +10,14 @@ ghost use Rattle.pep440_text.specs.Reading.{post_at, dev_at};
 use super::number::{marked_number, number};
 use crate::{Prerelease, PrereleaseKind, TextFault};
 
-/// Whether a byte is `.`, `-` or `_`.
+/// Returns whether a byte is `.`, `-` or `_`.
 pub(super) fn is_separator(byte: u8) -> bool
     ensures { result ≡ is_separator byte }
 {
     byte == b'.' || byte == b'-' || byte == b'_'
 }
 
-/// What follows a separator, where one stands at the front.
+/// Returns the bytes after a separator, where one is at the front.
 fn skip_separator(bytes: &[u8]) -> &[u8]
     ensures { result.now ≡ after_separator bytes.now }
 {
@@ -27,7 +27,7 @@ fn skip_separator(bytes: &[u8]) -> &[u8]
     }
 }
 
-/// What follows a word in either case, where it stands at the front.
+/// Returns the bytes after a word in either case, where it is at the front.
 fn strip_word<'a>(word: &[u8], bytes: &'a [u8]) -> Option<&'a [u8]>
     ensures { option_copied result ≡ behind_word word.now bytes.now }
 {
@@ -46,7 +46,7 @@ fn strip_word<'a>(word: &[u8], bytes: &'a [u8]) -> Option<&'a [u8]>
     }
 }
 
-/// What the first of some words that stands at the front means, and what follows it.
+/// Returns the meaning of the first of some words that is at the front, and the bytes after it.
 fn find_word<'a, A: Copy>(words: &[(&str, A)], bytes: &'a [u8]) -> Option<(A, &'a [u8])>
     ensures { option_map (λ found. (found.0, found.1.now)) result
         ≡ word_at (map (λ word. (word.0.now, word.1)) words.now) bytes.now }
@@ -59,7 +59,8 @@ fn find_word<'a, A: Copy>(words: &[(&str, A)], bytes: &'a [u8]) -> Option<(A, &'
     None
 }
 
-/// A word and a number, where there is the word.
+/// Reads a word and a number, where the word is there, and returns the word's meaning and the number, with
+/// the bytes after them.
 #[tactic(auto, unfolding(crate::specs::Reading::suffix_at))]
 fn suffix<'a, A: Copy>(
     words: &[(&str, A)],
@@ -77,7 +78,7 @@ fn suffix<'a, A: Copy>(
     }
 }
 
-/// A pre-release, where there is one.
+/// Reads a pre-release, where there is one, and returns it with the bytes after it.
 #[tactic(auto, unfolding(crate::specs::Reading::pre_at))]
 pub(super) fn pre(bytes: &[u8]) -> Result<(Option<Prerelease>, &[u8]), TextFault>
     ensures { Answers (λ found. (found.0, found.1.now)) Some result (pre_at bytes.now) }
@@ -99,7 +100,7 @@ pub(super) fn pre(bytes: &[u8]) -> Result<(Option<Prerelease>, &[u8]), TextFault
     ))
 }
 
-/// A post-release, where there is one.
+/// Reads a post-release, where there is one, and returns it with the bytes after it.
 #[tactic(auto, unfolding(crate::specs::Reading::post_at))]
 pub(super) fn post(bytes: &[u8]) -> Result<(Option<u64>, &[u8]), TextFault>
     ensures { Answers (λ found. (found.0, found.1.now)) Some result (post_at bytes.now) }
@@ -115,7 +116,7 @@ pub(super) fn post(bytes: &[u8]) -> Result<(Option<u64>, &[u8]), TextFault>
     }
 }
 
-/// A developmental release, where there is one.
+/// Reads a developmental release, where there is one, and returns it with the bytes after it.
 #[tactic(auto, unfolding(crate::specs::Reading::dev_at))]
 pub(super) fn dev(bytes: &[u8]) -> Result<(Option<u64>, &[u8]), TextFault>
     ensures { Answers (λ found. (found.0, found.1.now)) Some result (dev_at bytes.now) }

@@ -3,7 +3,6 @@ use Rattle.std.proofs.lemmas.Result.{err_from_is_err_and}
 use Rattle.reqs_ends.specs.declared.fault.Input.TheVariants.{First}
 use Rattle.reqs_ends.specs.Faults.{IsPlain, IsOfTexts}
 use Rattle.reqs_answers.specs.Texts.{texts_of}
-use Rattle.reqtable_requirements.proofs.Asked.{are_of_nodes}
 use Rattle.reqs_ends.proofs.Steps.{refuses_rest, refuses_texts}
 use Rattle.reqs_answers.proofs.Whole.{whole_check}
 use Rattle.reqs_answers.proofs.checks.check_text.Goals as goal
@@ -18,15 +17,11 @@ pub returns-in_err-requirements : goal.returns-in_err-requirements
 unfolding texts_of
 returns-in_err-requirements c =
     let p = err_from_is_err_and c.from_residual-in_err-requirements.result c.from_residual-in_err-requirements.ensures.1 in
-    rw (p.1, p.2, c.in_ok-extras.ensures) (refuses_rest (IsOfTexts c.args.vars.now First c.args.requirements.now.items) _ _ _ c.in_err-requirements.ensures.lines)
-
-pub text_behind-requires : goal.text_behind-requires
-text_behind-requires c =
-    are_of_nodes c.args.vars.now _ _ c.in_ok-requirements.ensures.lines.0 c.in_ok-requirements.ensures.lines.2
+    rw (p.1, p.2, c.in_ok-extras.ensures) (refuses_rest (IsOfTexts c.args.vars.now First c.args.requirements.now.items) _ _ _ c.in_err-requirements.ensures)
 
 pub returns : goal.returns
 returns c =
     whole_check c.args.vars.now _ c.args.requirements.now.items c.args.environment.now.items c.args.candidates.now.items c.deref.result.now
-    c.in_ok-requirements.ensures.lines.0 (c.in_ok-extras.ensures ∙ ap (λ l. Ok l) (sym c.deref.ensures.value))
-    c.in_ok-requirements.ensures.lines.1 c.args.format c.text_behind.result
-    (c.text_behind.ensures c.args.vars.now c.in_ok-requirements.ensures.lines.0 c.in_ok-requirements.ensures.lines.2)
+    c.in_ok-requirements.ensures.0 (c.in_ok-extras.ensures ∙ ap (λ l. Ok l) (sym c.deref.ensures.value))
+    c.in_ok-requirements.ensures.1 c.args.format c.text_behind.result
+    (c.text_behind.ensures c.args.vars.now c.in_ok-requirements.ensures.0 c.in_ok-requirements.ensures.2)

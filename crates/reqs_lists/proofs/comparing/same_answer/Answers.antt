@@ -1,5 +1,5 @@
 use Rattle.std.proofs.Common.{◌∷◌, []}
-use Rattle.reqtable_requirements.proofs.Lines.{lines_kept}
+use Rattle.reqtable_compare.proofs.Kept.{lines_kept}
 use Rattle.reqs_lists.specs.Comparison.{IsSameAnswer, CantBeCompared}
 use Rattle.reqs_lists.specs.Lists.{IsOfLists, two_lists}
 use Rattle.reqs_lists.proofs.Given.{given, two_read}

@@ -9,13 +9,13 @@ returns-in-Ok-parse c =
     let text = c.in-Ok.ensures in
     let r = c.in-Ok-parse.requirement in
     let read =
-    read_alone c.in-Ok-no_variables.vars _ bytes _ r c.in-Ok-no_variables.ensures text.text
-    c.in-Ok-parse.ensures.answered in
+    read_alone c.in-Ok-no_variables.vars bytes _ r c.in-Ok-no_variables.ensures text.text
+    c.in-Ok-parse.ensures in
     answered_by (AreParts bytes) (RefusesRequirement bytes) c.parts_text.result _ c.answered.ensures
-    (parts_of _ bytes _ r text.is_text text.text read c.parts_text.result c.parts_text.ensures)
+    (parts_of bytes _ r text.is_text text.text read c.parts_text.result c.parts_text.ensures)
 
 pub returns : goal.returns
 returns c =
     let text = c.in-Ok.ensures in
     no_requirement c.args.bytes.now _ c.in-Err-parse.error text.is_text text.text _ c.refused.ensures
-    c.in-Ok-no_variables.vars c.in-Ok-no_variables.ensures c.in-Err-parse.ensures.answered
+    c.in-Ok-no_variables.vars c.in-Ok-no_variables.ensures c.in-Err-parse.ensures

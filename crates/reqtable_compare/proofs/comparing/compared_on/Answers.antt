@@ -3,7 +3,7 @@ use Rattle.std.proofs.lemmas.Result.{err_from_is_err_and}
 use Rattle.reqtable_compare.proofs.Answering.{refusal_of, nodes_kept, all_have_kept, answered}
 use Rattle.reqtable_compare.proofs.Outside.{outside}
 use Rattle.reqtable_compare.proofs.Whole.{left_refused, right_refused}
-use Rattle.reqtable_requirements.proofs.Lines.{lines_kept}
+use Rattle.reqtable_compare.proofs.Kept.{lines_kept}
 use Rattle.reqtable_compare.proofs.comparing.compared_on.Goals as goal
 
 pub returns-in_err-left_table-clause-compared : goal.returns-in_err-left_table-clause-compared
