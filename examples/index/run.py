@@ -66,7 +66,7 @@ def answer(pieces: str, environments: str, extras: List[str], limit: int, out: s
 def refusal(error: Any) -> Refusal:
     """The refusal of a piece, by the line of the whole list."""
     order = ("extras", "requirements", "environments", "candidates", "cases")
-    message = str(error)
+    message = error.message
     if error.input not in ("requirements", "candidates"):
         return order.index(error.input), 0, message
     if error.line is None:  # a package has too many cases

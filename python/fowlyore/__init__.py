@@ -1,4 +1,5 @@
-"""Judges lists of Python requirements, and compares them (PEP 440, PEP 508), by a library whose answers are proved.
+"""Judges lists of Python requirements, and compares them (PEP 440, PEP 508), by a library whose answers are
+proved.
 
 >>> import fowlyore
 >>> fowlyore.check(["numpy>=1.26", "numpy<2"], candidates={"numpy": ["1.26.4", "2.0"]})
@@ -9,8 +10,11 @@
 
 from .errors import Refused
 from .distributions import installed
+from .files import read
+from .listings import Assumption, LeftOut, ListedLine, Listing, Place
 from .lists import Comparison, Conflict, InvalidInput, Row, check, conflicts, matrix, matrix_texts, normal, same
 from .markers import InvalidMarker, Marker, UndefinedComparison, UndefinedEnvironmentName, default_environment
+from .offered import read_candidates, wheelhouse
 from .requirements import InvalidRequirement, Requirement
 from .specifiers import InvalidSpecifier, Specifier, SpecifierSet
 from .urls import MarkerInURLWarning
@@ -18,6 +22,7 @@ from .version import InvalidVersion, Version, parse
 
 __version__ = "0.1.0"
 __all__ = [
+    "Assumption",
     "Comparison",
     "Conflict",
     "InvalidInput",
@@ -25,8 +30,12 @@ __all__ = [
     "InvalidRequirement",
     "InvalidSpecifier",
     "InvalidVersion",
+    "LeftOut",
+    "ListedLine",
+    "Listing",
     "Marker",
     "MarkerInURLWarning",
+    "Place",
     "Refused",
     "Requirement",
     "Row",
@@ -43,5 +52,8 @@ __all__ = [
     "matrix_texts",
     "normal",
     "parse",
+    "read",
+    "read_candidates",
     "same",
+    "wheelhouse",
 ]

@@ -1,19 +1,29 @@
-"""The command line: `python -m fowlyore`, or `fowlyore` where the package is installed."""
+"""The command line: `python -m fowlyore`, or `fowlyore` if the package is installed."""
 
 import argparse
+import importlib
 import io
+import json
 import os
 import re
+import shutil
 import sys
 import warnings
 from pathlib import Path
-from typing import Any, Dict, List, Optional, Union
+from typing import Any, Dict, Iterable, List, NamedTuple, Optional, Union
 
-from . import __version__
-from .distributions import installed
-from .explanations import check_explained
-from .lists import GREATEST_LIMIT, LIMIT, InvalidInput, check, conflicts, matrix, normal, same
+from . import __version__, tables
+from .distributions import installed, normal_name
+from .explanations import Explanation, check_explained
+from .files import has_groups, read, read_text, refuse_groups
+from .listings import LeftOut, Listing
+from .lists import (
+    GREATEST_LIMIT, LIMIT, Input, InvalidInput, Row, check, conflicts, environment_input, environments_input, matrix,
+    normal, same,
+)  # fmt: skip
 from .markers import completed
+from .offered import read_candidates, wheelhouse
+from .progress import Progress, is_terminal
 from .urls import MarkerInURLWarning
 from .version import InvalidVersion, Version
 
@@ -24,7 +34,9 @@ INPUTS = ("requirements", "environment", "environments", "candidates", "left", "
 
 STATUSES = """exit status: 0 after an answer, 1 where `same` said no, 2 where an input or the command line is refused, 3 where
 memory ran out or a file can't be read or written, as a standard stream that is closed, and 4 where a row is none with --strict.
-FILE may be `-` once, for standard input. A list has a requirement (PEP 508) a line; options of pip, as -r or --hash, are refused."""
+FILE may be `-` once, for standard input. It is a requirements file of pip, as a list with a requirement (PEP 508) a line is one,
+unless its name says otherwise: pyproject.toml, pylock.toml, METADATA, PKG-INFO, *.whl, *.tar.gz, or the folder of a project or of an
+installed distribution."""
 
 
 def source(word: str) -> Source:
@@ -37,6 +49,39 @@ def source(word: str) -> Source:
     return sys.stdin.buffer.read()
 
 
+def listing(word: str, groups: List[str]) -> Listing:
+    """A list that is named. What is left out of it is told."""
+    given = source(word)
+    if isinstance(given, bytes) and groups:
+        refuse_groups(word)
+    found = read_text(given) if isinstance(given, bytes) else read(given, groups=groups)
+    tell_left_out(found.left_out)
+    return found
+
+
+def tell_left_out(left_out: Iterable[LeftOut]) -> None:
+    for it in left_out:
+        complain(str(it))
+
+
+def tell_assumed(found: Listing) -> Listing:
+    """Tells what a list's file says of environments, where none is held against it; of single lines once."""
+    of_lines = [it for it in found.assumed if it.line]
+    for it in (it for it in found.assumed if not it.line or it is of_lines[0]):
+        others = ", nor is that of other lines" if it.line and of_lines[1:] else ""
+        complain(f"{it.place}: {it.what} {it.text} is not looked at{others}")
+    return found
+
+
+def asked(words: argparse.Namespace) -> Listing:
+    """The list of `check` and `matrix`. Extras that its file doesn't define are told."""
+    found = listing(words.requirements, words.group)
+    for it in words.extra:
+        if found.provided_extras is not None and normal_name(it) not in found.provided_extras:
+            complain(f"{found.path}: there is no extra {it}")
+    return found
+
+
 def show(*words: object, sep: str = "\n") -> None:
     """Prints a part of the answer."""
     if sys.stdout is None:
@@ -45,7 +90,8 @@ def show(*words: object, sep: str = "\n") -> None:
 
 
 def complain(sentence: str) -> None:
-    """Prints a sentence on standard error, where there is one: without it `print` would write to standard output."""
+    """Prints a sentence on standard error, if there is one: without it `print` would write to standard
+    output."""
     if sys.stderr is not None:
         print(f"fowlyore: {sentence}", file=sys.stderr)
 
@@ -76,6 +122,9 @@ def parser() -> argparse.ArgumentParser:
 
 def add(commands: Any, name: str, about: str, limit: bool = False) -> argparse.ArgumentParser:
     it: argparse.ArgumentParser = commands.add_parser(name, help=about, description=f"{about[0].upper()}{about[1:]}.")
+    of_group = "a dependency group, of pyproject.toml in addition, of a lock file in place of its default groups"
+    of_group += "; may be repeated"
+    it.add_argument("--group", action="append", default=[], metavar="NAME", help=of_group)
     if limit:
         of_limit = "how many cases a package may have, which are sets of its lines that apply together (%(default)s)"
         it.add_argument("--limit", type=limit_of, default=LIMIT, metavar="N", help=of_limit)
@@ -104,15 +153,73 @@ def add_matrix(commands: Any) -> None:
 
 
 def add_candidates(it: argparse.ArgumentParser) -> None:
-    of_file = "a file with a name and a version a line (else what is installed for this interpreter)"
-    it.add_argument("--candidates", metavar="FILE", help=of_file)
+    of_file = "names with versions: a file with one a line, pylock.toml, the .json of a package index (else what is installed)"
+    offers = it.add_mutually_exclusive_group()
+    offers.add_argument("--candidates", metavar="FILE", help=of_file)
+    of_folder = "a folder of wheels and source archives, which are the candidates; may be repeated"
+    offers.add_argument("--wheelhouse", action="append", default=[], metavar="DIR", help=of_folder)
+    of_python = "answer though FILE, by requires-python or a lock file's environments, leaves the environment out"
+    it.add_argument("--ignore-requires-python", action="store_true", help=of_python)
+    of_format = "as text for programs, a table for people, or a page of HTML (%(default)s)"
+    it.add_argument("--format", choices=("text", "table", "html"), default="text", help=of_format)
     it.add_argument("--extra", action="append", default=[], metavar="NAME", help="an extra that is asked for; may be repeated")
 
 
-def candidates_of(words: argparse.Namespace) -> Any:
+# Why files aren't held against an interpreter, and why wheels aren't by their tags.
+NO_INTERPRETER = "Requires-Python and the tags of wheels are not looked at: there are several environments"
+NO_TAGS = "the tags of wheels are not looked at:"
+
+
+class Interpreter(NamedTuple):
+    """What files have to be for to be candidates: the version of an interpreter and its tags; and which of these isn't known
+    and why, as a sentence."""
+
+    python: Optional[str] = None
+    tags: Optional[List[str]] = None
+    unknown: str = ""
+
+
+def interpreter_of(words: argparse.Namespace, environment: Input) -> Interpreter:
+    """The interpreter of `check`. Its tags are known of the running one, where the package `packaging` is there."""
+    try:
+        python = Version(json.loads(environment.text)["python_full_version"])
+    except (ValueError, KeyError, TypeError, AttributeError):
+        # (the library refuses this environment)
+        return Interpreter()
+    if words.environment is not None or words.python_version is not None:
+        return Interpreter(str(python), None, f"{NO_TAGS} the environment is not the running interpreter's")
+    try:
+        tags = importlib.import_module("packaging.tags")
+    except ImportError:
+        return Interpreter(str(python), None, f"{NO_TAGS} that takes the package packaging (pip install packaging)")
+    return Interpreter(str(python), [str(it) for it in tags.sys_tags()])
+
+
+def is_of_files(word: Optional[str]) -> bool:
+    """Whether candidates are read of the names of files: of a folder, or of a page of an index."""
+    return word is not None and (os.path.isdir(word) or word.endswith(".json"))
+
+
+def candidates_of(words: argparse.Namespace, interpreter: Interpreter) -> Any:
     """The candidates that are named, or those that are installed; what of these is no candidate is told."""
-    if words.candidates is not None:
-        return source(words.candidates)
+    if not words.wheelhouse and words.candidates is None:
+        return installed_told()
+    told: List[LeftOut] = []
+    wanted: Any = {"python": interpreter.python, "tags": interpreter.tags}
+    offered: Any
+    if words.wheelhouse:
+        offered = [it for folder in words.wheelhouse for it in wheelhouse(Path(folder), told, **wanted)]
+    else:
+        given = source(words.candidates)
+        offered = given if isinstance(given, bytes) else read_candidates(given, told, **wanted)
+    if interpreter.unknown and (words.wheelhouse or is_of_files(words.candidates)):
+        complain(interpreter.unknown)
+    tell_left_out(told)
+    return offered
+
+
+def installed_told() -> Any:
+    """What is installed; what of this is no candidate is told."""
     left_out: List[str] = []
     found = installed(left_out)
     for it in left_out:
@@ -127,7 +234,8 @@ def environment_of(words: argparse.Namespace) -> Any:
 
 
 def versions_of(full: str) -> Dict[str, str]:
-    """Both values for an interpreter of this version. An invalid version is left to the library, which refuses it."""
+    """Both values for an interpreter of this version. An invalid version is left to the library, which
+    refuses it."""
     try:
         version = Version(full)
     except InvalidVersion:
@@ -136,37 +244,75 @@ def versions_of(full: str) -> Dict[str, str]:
 
 
 def run_check(words: argparse.Namespace) -> int:
-    requirements = source(words.requirements)
-    inputs = (requirements, environment_of(words), candidates_of(words), words.extra)
-    rows, explanations = check_explained(*inputs) if words.explain else (check(*inputs), [])
-    why = {it.name: it.sentences for it in explanations}
-    for row in rows:
-        show(row, *why.get(row.name, ()), sep="\n    ")
+    found, environment = asked(words), environment_input(environment_of(words))
+    inputs: Any = (found, environment, candidates_of(words, interpreter_of(words, environment)), words.extra)
+    ignored = words.ignore_requires_python
+    with Progress("checking"):
+        if words.explain:
+            rows, explanations = check_explained(*inputs, ignore_requires_python=ignored)
+        else:
+            rows, explanations = check(*inputs, ignore_requires_python=ignored), []
+    show_rows(words, rows, explanations)
     return STRICT if words.strict and any(it.is_none for it in rows) else ANSWERED
 
 
+def show_rows(words: argparse.Namespace, rows: List[Row], explanations: List[Explanation]) -> None:
+    """The answer of `check`, in the format that is asked for."""
+    if words.format == "html":
+        show(tables.check_page(rows, explanations, f"check {words.requirements}"))
+    elif words.format == "table":
+        show(*tables.check_table(rows, explanations, width(), has_colours()))
+    else:
+        why = {it.name: it.sentences for it in explanations}
+        for row in rows:
+            show(row, *why.get(row.name, ()), sep="\n    ")
+
+
+def width() -> Optional[int]:
+    """How many columns the terminal has that is written to, and nothing where it is none."""
+    return shutil.get_terminal_size().columns if sys.stdout is not None and sys.stdout.isatty() else None
+
+
+def has_colours() -> bool:
+    """Whether a table may have colours: on a terminal alone, and not where NO_COLOR asks for none."""
+    return is_terminal(sys.stdout) and not os.environ.get("NO_COLOR")
+
+
 def run_matrix(words: argparse.Namespace) -> int:
-    inputs = (source(words.requirements), source(words.environments), candidates_of(words), words.extra)
-    answers = matrix(*inputs, limit=words.limit)
-    for number, rows in enumerate(answers, 1):
-        show(f"env {number}", *rows)
+    environments = environments_input(source(words.environments))
+    candidates = candidates_of(words, Interpreter(unknown=NO_INTERPRETER))
+    inputs: Any = (asked(words), environments, candidates, words.extra)
+    with Progress("answering for each environment"):
+        answers = matrix(*inputs, limit=words.limit, ignore_requires_python=words.ignore_requires_python)
+    if words.format == "text":
+        for number, rows in enumerate(answers, 1):
+            show(f"env {number}", *rows)
+    else:
+        grid = tables.Grid.of(answers, json.loads(environments.text))
+        page = words.format == "html"
+        title = f"matrix {words.requirements}"
+        show(*([tables.matrix_page(grid, title)] if page else tables.matrix_table(grid, width(), has_colours())))
     return STRICT if words.strict and any(it.is_none for rows in answers for it in rows) else ANSWERED
 
 
 def run_same(words: argparse.Namespace) -> int:
-    answer = same(source(words.left), source(words.right), words.limit)
+    both = (words.left, words.right)
+    # (groups are those of the projects and lock files among the two)
+    with_groups = [it for it in both if has_groups(it)] or both
+    left, right = (tell_assumed(listing(it, words.group if it in with_groups else [])) for it in both)
+    answer = same(left, right, words.limit)
     show(answer)
     return ANSWERED if answer else DIFFERENT
 
 
 def run_conflicts(words: argparse.Namespace) -> int:
-    for it in conflicts(source(words.requirements), words.limit):
+    for it in conflicts(tell_assumed(listing(words.requirements, words.group)), words.limit):
         show(it)
     return ANSWERED
 
 
 def run_normal(words: argparse.Namespace) -> int:
-    for it in normal(source(words.requirements)):
+    for it in normal(tell_assumed(listing(words.requirements, words.group))):
         show(it)
     return ANSWERED
 
@@ -174,22 +320,15 @@ def run_normal(words: argparse.Namespace) -> int:
 RUNS = {"check": run_check, "matrix": run_matrix, "same": run_same, "conflicts": run_conflicts, "normal": run_normal}
 
 
-def told(error: InvalidInput) -> str:
-    """What is wrong with an input, by the name of its file."""
-    message = str(error)
-    front = f"{error.input}: "
-    return f"{error.path}: {message[len(front):]}" if error.path and message.startswith(front) else message
-
-
 def write_utf8() -> None:
-    """Has all be written in UTF-8, as `reqs` does, whatever the encoding of the locale is."""
+    """Makes all output UTF-8, as `reqs` does, whatever the encoding of the locale is."""
     for it in (sys.stdout, sys.stderr):
         if isinstance(it, io.TextIOWrapper):
             it.reconfigure(encoding="utf-8", errors=it.errors)
 
 
 def complain_of_warnings() -> None:
-    """Has this package's warnings be sentences, until the filters are as they were."""
+    """Prints this package's warnings as sentences, until the filters are restored."""
     show_another = warnings.showwarning
 
     def show_warning(message: Any, category: Any, *place: Any, **more: Any) -> None:
@@ -203,22 +342,23 @@ def complain_of_warnings() -> None:
 
 
 def main(words: Optional[List[str]] = None) -> int:
-    """Runs a command, by default that of the process, and gives its exit status."""
+    """Runs a command, by default that of the process, and returns its exit status."""
     if words is None:
+        Progress.is_wanted = True
         write_utf8()
-    asked = parser().parse_args(words)
-    if sum(getattr(asked, it, None) == "-" for it in INPUTS) > 1:
+    said = parser().parse_args(words)
+    if sum(getattr(said, it, None) == "-" for it in INPUTS) > 1:
         complain("standard input (-) can be one input alone")
         return REFUSED
     try:
         with warnings.catch_warnings():
             complain_of_warnings()
-            status = RUNS[asked.command](asked)
+            status = RUNS[said.command](said)
         if sys.stdout is not None:
             sys.stdout.flush()
         return status
     except InvalidInput as error:
-        complain(told(error))
+        complain(str(error))
         return REFUSED
     except BrokenPipeError:
         # (so that nothing is written to it when the interpreter ends)

@@ -1,4 +1,4 @@
-"""Properties that are computed when they are first asked for."""
+"""Properties that are computed on first use."""
 
 from typing import Any, Callable, Generic, Optional, TypeVar, Union, overload
 
@@ -6,8 +6,9 @@ Value = TypeVar("Value")
 
 
 class cached_property(Generic[Value]):
-    """`functools.cached_property` without the lock that it has before Python 3.12: where another thread holds it at a fork, the
-    child waits for it without end. Two threads may both compute a value, and all are given that of the first to store its own.
+    """`functools.cached_property` without the lock that it has before Python 3.12: if another thread holds it
+    at a fork, the child waits for it forever. Two threads may both compute a value, and all get that of the
+    first to store its own.
 
     >>> class Circle:
     ...     @cached_property

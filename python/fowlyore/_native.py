@@ -1,8 +1,8 @@
-"""The C library `libreqs`, by ctypes: bytes go in, and bytes or a `Fault` come out. It keeps nothing between calls.
+"""The C library `libreqs`, by ctypes: bytes go in, and bytes or a `Fault` come out. It keeps nothing between
+calls.
 
-Calls on one version or specifier hold the interpreter's lock, since letting go of it costs as much as they do; all others let
-go of it.
-"""
+Calls on one version or specifier hold the interpreter's lock, since releasing it costs as much as they do;
+all others release it."""
 
 import ctypes
 import os
@@ -35,7 +35,7 @@ class Reply(ctypes.Structure):
 
 
 class Fault(Exception):
-    """A call that was refused: why, which input by its number, and where, in bytes of the line."""
+    """A call that was refused: the reason, the number of the input, and the place, in bytes of the line."""
 
     def __init__(self, message: str, reply: Reply) -> None:
         super().__init__(message)
@@ -53,13 +53,13 @@ take_buffer, give_buffer = _free.pop, _free.append
 
 
 def new_buffer() -> Any:
-    """Another buffer, where none is free. Its slices are bytes."""
+    """Another buffer, when none is free. Its slices are bytes."""
     return ctypes.create_string_buffer(ROOM)
 
 
 def path() -> str:
-    """Where the library lies: beside this module, unless FOWLYORE_LIBRARY names another one. An interpreter that was started
-    with `-I` or `-E` looks at no variables of the environment, and so this doesn't either."""
+    """The path of the library: next to this module, unless FOWLYORE_LIBRARY names another one. An interpreter
+    that was started with `-I` or `-E` ignores environment variables, and so does this."""
     beside = os.path.join(os.path.dirname(os.path.abspath(__file__)), "libreqs.so")
     if sys.flags.isolated or sys.flags.ignore_environment:
         return beside
@@ -77,7 +77,7 @@ _short, _long = _load(ctypes.PyDLL), _load(ctypes.CDLL)
 
 
 def _declare(library: Any, name: str, result: Any, texts: int, limit: bool = False, out: bool = True) -> Any:
-    """A function of the library with its types. Bytes are handed over as they are, without a copy."""
+    """A function of the library with its types. Bytes are passed as they are, without a copy."""
     call = library[name]
     call.restype = result
     call.argtypes = [ctypes.c_char_p, ctypes.c_size_t] * texts
@@ -114,7 +114,7 @@ _normal = _declare(_long, "reqs_normal", Reply, 1)
 
 
 def encoded(text: str) -> bytes:
-    """UTF-8, but that a lone surrogate is written too: the library then says that this is no text."""
+    """UTF-8, except that a lone surrogate is encoded too: the library then reports that this is not UTF-8."""
     try:
         return text.encode()
     except UnicodeEncodeError:
@@ -122,7 +122,8 @@ def encoded(text: str) -> bytes:
 
 
 def _ask(call: Any, texts: Tuple[bytes, ...], limit: Optional[int] = None, size: int = ROOM) -> Tuple[Reply, bytes]:
-    """The reply of a call and its whole text; asked again with more room where `size` was too little."""
+    """The reply of a call and its whole text; the call is repeated with more room if `size` was too little.
+    """
     words: List[Any] = []
     for text in texts:
         words += (text, len(text))
@@ -145,7 +146,7 @@ def _ask(call: Any, texts: Tuple[bytes, ...], limit: Optional[int] = None, size:
 
 
 def _answer(call: Any, *texts: bytes, limit: Optional[int] = None, size: int = ROOM) -> bytes:
-    """What a call answers."""
+    """The answer of a call. Raises `Fault` if it is refused, and `MemoryError` when memory runs out."""
     reply, text = _ask(call, texts, limit, size)
     if reply.status == MEMORY:
         raise MemoryError("libreqs")
@@ -155,18 +156,20 @@ def _answer(call: Any, *texts: bytes, limit: Optional[int] = None, size: int = R
 
 
 def lines_of(answer: str) -> List[str]:
-    """The lines of an answer. A line feed alone ends one: str.splitlines ends them at more, which may stand within a text."""
+    """The lines of an answer. Only a line feed ends one: str.splitlines splits at more characters, which may
+    be within a text."""
     lines = answer.split("\n")
     return lines if lines[-1] else lines[:-1]
 
 
 def _size_for(*texts: bytes) -> int:
-    """Room that is enough for most answers about lists."""
+    """A buffer size that is enough for most answers about lists."""
     return ROOM + 2 * sum(map(len, texts))
 
 
 def long_version_key(text: bytes) -> Optional[bytes]:
-    """A version's key that a buffer may be too short for, or nothing where the text is none. `Version` reads others itself."""
+    """A version's key, which may be too long for a buffer, or None if the text is not a version. `Version`
+    reads other keys itself."""
     buffer = new_buffer()
     length = version_key_call(text, len(text), buffer, ROOM)
     if length > ROOM:
@@ -190,33 +193,34 @@ def specifiers(text: bytes) -> List[str]:
 
 
 def take_one(specifiers: bytes, version: bytes) -> bytes:
-    """`1` where the list takes the version, `0` where it doesn't, `?` where that is no version."""
+    """`1` if the list accepts the version, `0` if it doesn't, `?` if that is not a version."""
     return _answer(_take_one, specifiers, version + b"\n")
 
 
 def take(specifiers: bytes, versions: bytes) -> bytes:
-    """The same for each line of `versions`."""
+    """For each line of `versions` `1` if the list accepts the version, `0` if it doesn't, `?` if the line is
+    not a version."""
     return _answer(_take, specifiers, versions, size=len(versions))
 
 
 def disjoint(left: bytes, right: bytes) -> bool:
-    """Whether no point lies in the ranges of both lists."""
+    """Whether the ranges of both lists are disjoint: no point is in both."""
     return _answer(_specifiers_disjoint, left, right) == b"1"
 
 
 def subset(left: bytes, right: bytes) -> bool:
-    """Whether each point of the left list's range lies in the right one's."""
+    """Whether the left list's range is a subset of the right one's: each of its points is in that."""
     return _answer(_specifiers_subset, left, right) == b"1"
 
 
 def empty(specifiers: bytes) -> bool:
-    """Whether no point lies in the list's range."""
+    """Whether the list's range is empty: no point is in it."""
     return _answer(_specifiers_empty, specifiers) == b"1"
 
 
 class RequirementParts(NamedTuple):
-    """A requirement's parts: normal names, extras and specifiers with commas between them, and the URL; empty where
-    there are none. The marker is all that follows the `;` in the given text, or None where nothing does."""
+    """A requirement's parts: normal names, extras and specifiers with commas between them, and the URL; empty
+    if there are none. The marker is all that follows the `;` in the given text, or None if nothing does."""
 
     name: str
     extras: str
@@ -232,7 +236,8 @@ def requirement(text: bytes) -> RequirementParts:
 
 
 def _standing_at(text: bytes, place: str) -> Optional[str]:
-    """The part of a text at a place, which is its first byte and the number of its bytes."""
+    """The part of a text at a place, which is its first byte and the number of its bytes; None without a
+    place."""
     if not place:
         return None
     start, length = map(int, place.split(" "))
@@ -240,17 +245,17 @@ def _standing_at(text: bytes, place: str) -> Optional[str]:
 
 
 def marker(text: bytes) -> str:
-    """A marker's normal text, which is empty where it always holds; a Fault where it has none."""
+    """A marker's normal text, which is empty if it always holds. Raises `Fault` if it has none."""
     return _answer(_marker, text).decode()
 
 
 def marker_key(text: bytes) -> bytes:
-    """A marker's key, which markers of one meaning have in common."""
+    """A marker's key, which markers with the same meaning have in common."""
     return _answer(_marker_key, text)
 
 
 def marker_truth(text: bytes) -> bytes:
-    """`1` where the marker always holds, `0` where it never does, and else `-`."""
+    """`1` if the marker always holds, `0` if it never does, and otherwise `-`."""
     return _answer(_marker_truth, text)
 
 
@@ -265,23 +270,23 @@ def marker_implies(left: bytes, right: bytes) -> bool:
 
 
 def marker_negated(text: bytes) -> str:
-    """The normal text of the marker that holds where this one doesn't."""
+    """The normal text of the marker's negation, which holds where the marker doesn't."""
     return _answer(_marker_negated, text).decode()
 
 
 def marker_simplify_python(text: bytes, lower: bytes, upper: bytes) -> str:
-    """The normal text of what is left of a marker where `python_full_version` is at least `lower` and below `upper`;
-    an empty text is no bound."""
+    """The normal text of a marker, simplified for a `python_full_version` that is at least `lower` and below
+    `upper`; an empty text is no bound."""
     return _answer(_marker_simplify_python, text, lower, upper).decode()
 
 
 def marker_simplify_extras(text: bytes, extras: bytes) -> str:
-    """The normal text of what is left of a marker where the extras, one a line, are present."""
+    """The normal text of a marker, simplified for the presence of the extras, one per line."""
     return _answer(_marker_simplify_extras, text, extras).decode()
 
 
 def markers_hold(markers: bytes, environment: bytes, extras: bytes) -> bytes:
-    """For each line of `markers` `1` where it holds, `0` where it doesn't, `?` where it is no marker."""
+    """For each line of `markers` `1` if it holds, `0` if it doesn't, `?` if the line is not a marker."""
     return _answer(_markers_hold, markers, environment, extras, size=len(markers))
 
 

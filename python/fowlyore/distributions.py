@@ -1,4 +1,4 @@
-"""What the running interpreter has installed."""
+"""The distributions that the running interpreter has installed."""
 
 import importlib.metadata
 from typing import Dict, List, Optional, Tuple
@@ -10,9 +10,10 @@ __all__ = ["installed"]
 
 
 def installed(left_out: Optional[List[str]] = None) -> List[Tuple[str, str]]:
-    """Name and version of each installed distribution, by name; of two of one name that which the interpreter finds first.
+    """Name and version of each installed distribution, by name; of two with the same name the one that the
+    interpreter finds first.
 
-    What PEP 508 and PEP 440 can't read is left out, and told in `left_out`.
+    A name or version that is not valid by PEP 508 and PEP 440 is left out, and added to `left_out`.
 
     >>> all(Version(version) for name, version in installed())
     True
@@ -20,10 +21,10 @@ def installed(left_out: Optional[List[str]] = None) -> List[Tuple[str, str]]:
     found: Dict[str, Tuple[str, str]] = {}
     for distribution in importlib.metadata.distributions():
         name, version = _name_and_version(distribution)
-        key = _normal_name(name)
+        key = normal_name(name)
         if key in found:
             continue
-        if key and _is_version(version):
+        if key and is_version(version):
             found[key] = (name, version)
         elif left_out is not None:
             left_out.append(f"{name} {version}")
@@ -37,8 +38,8 @@ def _name_and_version(distribution: importlib.metadata.Distribution) -> Tuple[st
         return "None", "None"
 
 
-def _normal_name(name: str) -> str:
-    """A name's normal form, and nothing where it is none."""
+def normal_name(name: str) -> str:
+    """A name's normal form, or an empty text if it is not a name."""
     try:
         requirement = Requirement(name)
     except InvalidRequirement:
@@ -46,7 +47,7 @@ def _normal_name(name: str) -> str:
     return requirement._normal_front()[0] if requirement.name == name else ""
 
 
-def _is_version(text: str) -> bool:
+def is_version(text: str) -> bool:
     try:
         Version(text)
     except InvalidVersion:

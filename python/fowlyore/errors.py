@@ -1,4 +1,4 @@
-"""What is raised where a text is refused."""
+"""The errors that are raised for texts that are refused."""
 
 import unicodedata
 from typing import Optional, Tuple, Type, TypeVar
@@ -13,8 +13,9 @@ Kind = TypeVar("Kind", bound="Refused")
 class Refused(ValueError):
     """A text was refused.
 
-    `message` says why. Where it is told, `text` is the line at fault and `line` its number, from 1, and the part at fault
-    is `text[start:end]`; else they are None. As a text the error has a caret below that part.
+    `message` is the reason. If the place is known, `text` is the line at fault and `line` its number, from 1,
+    and the part at fault is `text[start:end]`; otherwise they are None. As a text the error has a caret below
+    that part.
 
     >>> error = Refused("no such operator", text="foo=1", line=1, start=3, end=4)
     >>> print(error)
@@ -52,25 +53,27 @@ class Refused(ValueError):
 
 
 def columns(text: str) -> int:
-    """How many columns a terminal takes for it."""
+    """The number of columns of a text in a terminal."""
     wide = sum(unicodedata.east_asian_width(it) in "WF" for it in text)
     return len(text) + wide - sum(map(bool, map(unicodedata.combining, text)))
 
 
 def characters(line: bytes, start: int, length: int) -> Tuple[int, int]:
-    """A part of a line, given in bytes, in characters."""
+    """A part of a line, given in bytes, in characters: its start and its end."""
     front = len(line[:start].decode("utf-8", "replace"))
     return front, front + len(line[start : start + length].decode("utf-8", "replace"))
 
 
 def on_one_line(kind: Type[Kind], text: str) -> None:
-    """Refuses a text that goes over more than one line: PEP 508 has no line feed, and the library's batches have lines."""
+    """Refuses a text of more than one line: PEP 508 has no line feed, and the library's batches have lines.
+    """
     if "\n" in text.strip():
         raise kind(f"{text!r} goes over more than one line", text=text)
 
 
 def refusal(kind: Type[Kind], fault: _native.Fault, text: str, message: str) -> Kind:
-    """The error for one text that is none. An empty part at the front of some text is a place that isn't told."""
+    """The error for one invalid text. An empty part at the start of a non-empty text means that no place is
+    known."""
     if text and fault.start == 0 and fault.length == 0:
         return kind(message, text=text, line=1)
     start, end = characters(_native.encoded(text), fault.start, fault.length)

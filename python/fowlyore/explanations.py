@@ -8,7 +8,7 @@ from typing import Dict, Iterable, Iterator, List, NamedTuple, Optional, Sequenc
 from . import _native
 from .lists import (
     Candidates, Environment, Extras, Input, Requirements, Row, answered, candidates_input, environment_input, extras_input,
-    requirements_input, rows_of,
+    requirements_input, rows_checked, rows_of,
 )  # fmt: skip
 from .specifiers import InvalidSpecifier, Specifier, SpecifierSet
 from .version import InvalidVersion, Version
@@ -29,13 +29,15 @@ _SPECIFIERS = re.compile(r"\s*(?:\[[^\]]*\])?\s*\(?([^;#)]*)")
 
 
 class Line(NamedTuple):
-    """A line of a list: its number, from 1, and its text without white space around it."""
+    """A line of a list: its number, from 1, and its text without white space around it. Of a list that `read` has read, and that
+    isn't plain, the number counts the list's `lines`, and `place` says where the line came from."""
 
     number: int
     text: str
+    place: str = ""
 
     def __str__(self) -> str:
-        return f"line {self.number} ({self.text})"
+        return f"{self.place or f'line {self.number}'} ({self.text})"
 
 
 class Refusal(NamedTuple):
@@ -49,18 +51,19 @@ class Refusal(NamedTuple):
 class Explanation:
     """Why a package has no version.
 
-    Its lines are those of the list that apply in the environment with the extras, and require it. A line *accepts* a
-    candidate where `check` of two lines, this one and `NAME>=0.dev0`, and of this one candidate selects it, and *refuses* it
-    where that gives `none`. (All versions are accepted by `>=0.dev0`, and it names a pre-release, so that pre-releases are
-    let in.) So the values claim no more than this:
+    Its lines are those of the list that apply in the environment with the extras, and require it. A line
+    *accepts* a candidate if `check` of two lines, this one and `NAME>=0.dev0`, and of this one candidate
+    selects it, and *refuses* it if that returns `none`. (All versions are accepted by `>=0.dev0`, and it
+    names a pre-release, so that pre-releases are let in.) So the values claim no more than this:
 
-    - `greatest`: the greatest candidate, None where there is none; of equal ones the first.
-    - `candidates`: how many candidates there are; of several with one normal text one counts.
+    - `greatest`: the greatest candidate, None if there is none; of equal ones the first.
+    - `candidates`: how many candidates there are; of several with the same normal text one counts.
     - `lines_without_candidate`: the lines that accept none of the candidates.
-    - `refusals`: where each line accepts some candidate, of the three greatest ones those that some line refuses, the greatest
-      first, each with all lines that refuse it.
-    - `prerelease`: the greatest candidate that all lines accept. It is a pre-release or a developmental release, and no line
-      has a specifier with such a version, or else `check` would select it. None where each candidate is refused by some line.
+    - `refusals`: if each line accepts some candidate, those of the three greatest ones that some line
+      refuses, the greatest first, each with all lines that refuse it.
+    - `prerelease`: the greatest candidate that all lines accept. It is a pre-release or a developmental
+      release, and no line has a specifier with such a version, or else `check` would select it. None if each
+      candidate is refused by some line.
     """
 
     name: str
@@ -72,7 +75,7 @@ class Explanation:
 
     @property
     def sentences(self) -> List[str]:
-        """The values in words, a sentence on a line, without those that say nothing."""
+        """The values in words, one sentence per line; values without content have none."""
         if self.greatest is None:
             return ["there is no candidate of this name"]
         if self.lines_without_candidate:
@@ -103,29 +106,29 @@ def _listed(lines: Sequence[Line]) -> str:
 
 
 class _Asking(NamedTuple):
-    """A line that asks for a package, and what stands in it after the package's name."""
+    """A line that requires a package, and its text after the package's name."""
 
     line: Line
     rest: str
 
     def of(self, name: str) -> str:
-        """The same line, asking for another package."""
+        """The same requirement on another package, as a line."""
         return f"{name}{self.rest}\n"
 
     @property
     def alias(self) -> str:
-        """A package that no other line asks for."""
+        """A package that no other line requires."""
         return f"line{self.line.number}"
 
 
 def _admitting(name: str) -> str:
-    """A line that accepts all versions and has pre-releases let in: it names the least of all versions."""
+    """A line that accepts all versions and lets pre-releases in: it names the lowest of all versions."""
     return f"{name}>=0.dev0\n"
 
 
 @dataclass(frozen=True)
 class _Question:
-    """What is asked of lines and candidates: where they apply."""
+    """The environment and the extras of all queries: what decides which lines apply."""
 
     environment: Input
     extras: Input
@@ -137,8 +140,8 @@ class _Question:
         return {it.name: it for it in rows}
 
     def accepting_none(self, asked: Iterable["_Offer"]) -> List[_Asking]:
-        """The lines that accept none of the candidates that they are offered: each line is asked as a package of its own, all of
-        them at once. A line that doesn't apply accepts all."""
+        """The lines that accept none of the candidates that they are offered: each line is tested under a
+        package name of its own, all of them at once. A line that doesn't apply accepts all."""
         found: List[_Asking] = []
         for batch in _batches(asked):
             lines = "".join(it.of(it.alias) + _admitting(it.alias) for it, _ in batch)
@@ -147,7 +150,7 @@ class _Question:
         return found
 
     def taken_by_all(self, lines: List[_Asking], versions: Iterable[Version]) -> Optional[Version]:
-        """The greatest candidate that all of some lines accept, but for those that don't apply."""
+        """The greatest candidate that all of some lines accept, except for those that don't apply."""
         asked = "".join(it.of("all") for it in lines) + _admitting("all")
         return self.rows(asked, "".join(f"all {it}\n" for it in versions))["all"].version
 
@@ -157,7 +160,7 @@ _Offer = Tuple[_Asking, Sequence[Version]]
 
 
 def _batches(offers: Iterable[_Offer]) -> Iterator[List[_Offer]]:
-    """Lines in groups, of which a call can be asked."""
+    """Lines in groups, each of which fits into one call."""
     batch: List[_Offer] = []
     size = 0
     for line, versions in offers:
@@ -172,14 +175,20 @@ def _batches(offers: Iterable[_Offer]) -> Iterator[List[_Offer]]:
 
 
 def explain(
-    requirements: Requirements, environment: Environment = None, candidates: Candidates = None, extras: Extras = ()
+    requirements: Requirements,
+    environment: Environment = None,
+    candidates: Candidates = None,
+    extras: Extras = (),
+    *,
+    ignore_requires_python: bool = False,
 ) -> List[Explanation]:
-    """For each row of `check` that is `none`, by name, why it is; the arguments are those of `check`.
+    """For each row of `check` that is `none`, by name, the reason; the arguments are those of `check`.
 
-    Beside the library's call for `check` it makes for each such package with candidates at most four calls over its own lines,
-    one of them with all its candidates. Lines that refuse the three greatest candidates are asked about others, all lines in
-    one call, and those that refuse these about eight times as many, and so on. Only candidates are asked about that lie within
-    the bounds of a line's specifiers: for `foo==1.2` these are 1.2 and its local versions.
+    In addition to the library's call for `check` it makes for each such package with candidates at most four
+    calls over its own lines, one of them with all its candidates. Lines that refuse the three greatest
+    candidates are tested with others, all lines in one call, and those that refuse these with about eight
+    times as many, and so on. Only candidates within the bounds of a line's specifiers are tested: for
+    `foo==1.2` these are 1.2 and its local versions.
 
     >>> for it in explain(["foo!=2.1", "foo>=1", "foo<2,!=1.5"], candidates={"foo": ["0.9", "1.5", "2.1"]}):
     ...     print(it)
@@ -189,22 +198,29 @@ def explain(
     >>> print(*explain(["foo>=1", "foo>=3"], candidates={"foo": ["0.9", "2.1"]}))
     line 2 (foo>=3) accepts no candidate; the greatest is 2.1
     """
-    return check_explained(requirements, environment, candidates, extras)[1]
+    return check_explained(
+        requirements, environment, candidates, extras, ignore_requires_python=ignore_requires_python
+    )[1]  # fmt: skip
 
 
 def check_explained(
-    requirements: Requirements, environment: Environment = None, candidates: Candidates = None, extras: Extras = ()
+    requirements: Requirements,
+    environment: Environment = None,
+    candidates: Candidates = None,
+    extras: Extras = (),
+    *,
+    ignore_requires_python: bool = False,
 ) -> Tuple[List[Row], List[Explanation]]:
-    """The rows of `check`, and what `explain` says of them; each input is read once."""
+    """The rows of `check`, and the explanations of `explain`; each input is read once."""
     inputs = (
         requirements_input(requirements), environment_input(environment), candidates_input(candidates),
         extras_input(extras),
     )  # fmt: skip
-    rows = rows_of(answered(_native.check, *inputs))
+    rows = rows_checked(inputs, ignore_requires_python)
     names = [it.name for it in rows if it.is_none]
     if not names:
         return rows, []
-    lines = _lines_of(inputs[0].text.decode(), names)
+    lines = _lines_of(inputs[0], names)
     versions = _versions_of(inputs[2].text.decode(), names)
     question = _Question(inputs[1], inputs[3])
     return rows, [_explanation(it, lines[it], versions[it], question) for it in names]
@@ -215,19 +231,28 @@ def _normal(name: str) -> str:
     return re.sub("[-_.]+", "-", name).lower()
 
 
-def _lines_of(text: str, names: List[str]) -> Dict[str, List[_Asking]]:
-    """The lines that ask for these packages, whether they apply or not; the list is one that `check` has read."""
+def _lines_of(given: Input, names: List[str]) -> Dict[str, List[_Asking]]:
+    """The lines that require these packages, whether they apply or not; the list is one that `check` has
+    read."""
     found: Dict[str, List[_Asking]] = {it: [] for it in names}
-    for number, line in enumerate(text.split("\n"), 1):
+    for number, line in enumerate(given.text.decode().split("\n"), 1):
         name = _NAME.match(line)
         of_name = None if name is None else found.get(_normal(name[1]))
         if name is not None and of_name is not None:
-            of_name.append(_Asking(Line(number, line.strip()), line[name.end() :]))
+            of_name.append(_Asking(_line_of(given, number, line), line[name.end() :]))
     return found
 
 
+def _line_of(given: Input, number: int, text: str) -> Line:
+    if given.listing is None:
+        return Line(number, text.strip())
+    place = given.listing.place(number)
+    return Line(number, text.strip(), place.within if place.path == given.listing.path else str(place))
+
+
 def _versions_of(text: str, names: List[str]) -> Dict[str, List[Version]]:
-    """The candidates of these names, the greatest first, equal ones in their order; those of one normal text once."""
+    """The candidates of these names, the greatest first, equal ones in their order; those with the same
+    normal text once."""
     found: Dict[str, Dict[str, Version]] = {it: {} for it in names}
     for name, given in _CANDIDATE.findall(text):
         of_name = found.get(_normal(name))
@@ -257,8 +282,8 @@ def _without_candidate(refusing: List[List[_Asking]], others: List[Version], que
 
 
 def _accepting(lines: List[_Asking], rising: List[Version], question: _Question) -> Set[_Asking]:
-    """The lines that accept some of the candidates. Each is asked about the greatest one within its bounds, and where that is
-    refused about more and more of those below."""
+    """The lines that accept some of the candidates. Each is tested with the greatest one within its bounds,
+    and if that is refused with more and more of those below."""
     public = [Version(it.public) if "+" in str(it) else it for it in rising]
     within = {it: _within(it, public) for it in lines}
     found: Set[_Asking] = set()
@@ -273,8 +298,8 @@ def _accepting(lines: List[_Asking], rising: List[Version], question: _Question)
 
 
 def _within(line: _Asking, public: List[Version]) -> range:
-    """Where those of some candidates stand that the line's specifiers may accept. The candidates are given by their public
-    versions, rising, since what a specifier accepts of these goes by its bounds."""
+    """The indices of those of some candidates that the line's specifiers may accept. The candidates are given
+    by their public versions, rising, since what a specifier accepts of these is decided by its bounds."""
     given = _SPECIFIERS.match(line.rest)
     try:
         spans = [_span(it, public) for it in SpecifierSet(given[1] if given else "")]
@@ -284,8 +309,9 @@ def _within(line: _Asking, public: List[Version]) -> range:
 
 
 def _span(specifier: Specifier, public: List[Version]) -> range:
-    """Where the versions stand that lie within a specifier's bounds (PEP 440, Version specifiers): what `==` and `===` accept
-    has the public version of theirs, what `~=` and a star accept begins with their release. `!=` has no bounds."""
+    """The indices of the versions within a specifier's bounds (PEP 440, Version specifiers): what `==` and
+    `===` accept has the public version of theirs, what `~=` and a star accept begins with their release. `!=`
+    has no bounds."""
     low, high = 0, len(public)
     operator, named = specifier.operator, Version(Version(specifier._without_star()).public)
     if operator == "!=":
@@ -302,7 +328,8 @@ def _span(specifier: Specifier, public: List[Version]) -> range:
 
 
 def _end_of(epoch: int, release: Sequence[int], public: List[Version]) -> int:
-    """Where the versions end whose release begins with some numbers, or all where none can be above these."""
+    """The index after the versions whose release begins with some numbers, or after all versions if none can
+    be above these."""
     *front, last = release
     try:
         above = Version(f"{epoch}!{'.'.join(map(str, [*front, last + 1]))}.dev0")

@@ -1,21 +1,23 @@
-"""Lists of requirements: `check`, `matrix`, `same`, `conflicts` and `normal`, as the program `reqs` has them.
+"""Lists of requirements: `check`, `matrix`, `same`, `conflicts` and `normal`, as in the program `reqs`.
 
-A list is given in one of three ways: a str or bytes is its text, a path (`pathlib.Path`) names a file of it, and any other
-iterable has its lines: texts, or `Requirement`s.
-"""
+A list is given in one of four ways: a str or bytes is its text, a path (`pathlib.Path`) names a file with
+it, a `Listing` is what `read` has read of a file, and any other iterable has its lines: texts, or
+`Requirement`s."""
 
 import json
 import operator
 import os
 import re
-from dataclasses import dataclass
-from typing import Any, Callable, Iterable, List, Mapping, Optional, Sequence, Tuple, TypeVar, Union
+from dataclasses import dataclass, field
+from typing import Any, Callable, Iterable, List, Mapping, Optional, Sequence, Set, Tuple, TypeVar, Union
 
 from . import _native
-from .errors import Refused, characters
+from .errors import Refused, characters, columns
 from .distributions import installed
+from .listings import COMMENT, ENVIRONMENTS, REQUIRES_PYTHON, Listing, Located, Place, TooLong
 from .markers import completed, environment_json
 from .requirements import InvalidRequirement, Requirement
+from .specifiers import SpecifierSet
 from .urls import warn_of_marker_in
 from .version import Version
 
@@ -25,7 +27,7 @@ __all__ = [
 
 # How many cases a package may have where no limit is named, and the greatest limit, as in `reqs`.
 LIMIT, GREATEST_LIMIT = 4096, 1_000_000
-Requirements = Union[str, bytes, "os.PathLike[str]", Iterable[Union[str, Requirement]]]
+Requirements = Union[str, bytes, "os.PathLike[str]", Listing, Iterable[Union[str, Requirement]]]
 Environment = Union[None, str, bytes, "os.PathLike[str]", Mapping[str, str]]
 Environments = Union[str, bytes, "os.PathLike[str]", Iterable[Mapping[str, str]]]
 Candidates = Union[
@@ -42,36 +44,51 @@ Answer = TypeVar("Answer")
 # A text that is meant as a path, most likely, though a package could have such a name.
 _PATH = re.compile(r"\S+\.(txt|in|json|toml)")
 _ROW = re.compile(r"([^ \[]+)(?:\[([^\]]*)\])? (.*)")
-# A line in which a `;` stands at the end of something that may be a URL, and where a comment begins.
+# A line in which a `;` stands at the end of something that may be a URL.
 _WITH_URL = re.compile(rb"@[^@;\n]*(?<!\s);")
-_COMMENT = re.compile(r"(?:^|\s)#.*")
 # A candidate's line that the library reads as one name and one version, or refuses.
 _CANDIDATE = re.compile(r"[^ #\n][^#\n]*")
 _WHITE = " \t\n\r\f"
+# What stands before the reason in the library's refusal of a line, of which a part may be told.
+_OF_LINE = re.compile(r"[a-z]+: line [0-9]+(?:(, byte [0-9]+, length [0-9]+)\n|: )")
 
 
 class InvalidInput(Refused):
-    """An input was refused. `input` is its name, as `requirements` or `candidates`, and `path` the file that it came from.
+    """An input was refused. `input` is its name, as `requirements` or `candidates`, `path` the file that it
+    came from, and `entry` the entry of a table, as `project.dependencies[0]`, if it came from one. As a text
+    the error begins with the file, or with the name if there is none.
 
     >>> check("foo=1", candidates="")
     Traceback (most recent call last):
     fowlyore.lists.InvalidInput: requirements: line 1...
     """
 
-    def __init__(self, message: str = "", *, input: Optional[str] = None, path: Optional[str] = None, **place: Any) -> None:
+    def __init__(
+        self,
+        message: str = "",
+        *,
+        input: Optional[str] = None,
+        path: Optional[str] = None,
+        entry: Optional[str] = None,
+        **place: Any,
+    ) -> None:
         super().__init__(message, **place)
         self.input = input
         self.path = path
+        self.entry = entry
 
     def __str__(self) -> str:
         # (the library's message has the line with a caret in it)
+        front = f"{self.input}: "
+        if self.path and self.message.startswith(front):
+            return f"{self.path}: {self.message[len(front) :]}"
         return self.message
 
 
 @dataclass(frozen=True)
 class Row:
-    """What becomes of a package: the extras that are asked for, and `outcome`, which is the text of the version that is
-    taken, `none` or `direct`."""
+    """The row of a required package: the extras that are required, and `outcome`, which is the text of the
+    selected version, `none` or `direct`."""
 
     name: str
     extras: Tuple[str, ...]
@@ -79,17 +96,17 @@ class Row:
 
     @property
     def is_none(self) -> bool:
-        """Whether no candidate is taken."""
+        """Whether no candidate is selected."""
         return self.outcome == "none"
 
     @property
     def is_direct(self) -> bool:
-        """Whether the package is had from a URL."""
+        """Whether the package is required by a URL."""
         return self.outcome == "direct"
 
     @property
     def version(self) -> Optional[Version]:
-        """The version that is taken, if one is."""
+        """The selected version, or None."""
         return None if self.is_none or self.is_direct else Version(self.outcome)
 
     def __str__(self) -> str:
@@ -98,8 +115,9 @@ class Row:
 
 @dataclass(frozen=True)
 class Comparison:
-    """Whether two lists require the same everywhere; else the first package that differs, and where: a marker's text, or
-    `all environments`. It is true where they do."""
+    """Whether two lists require the same everywhere, in which case it is true; otherwise `package` is the
+    first package that differs, and `place` is where: a marker's text, or `all environments`, which is not
+    a marker."""
 
     package: Optional[str] = None
     place: Optional[str] = None
@@ -113,27 +131,40 @@ class Comparison:
 
 @dataclass(frozen=True)
 class Conflict:
-    """A package, the numbers of its lines that have no version in common, and whether one of them names a pre-release."""
+    """A package, the numbers of its lines that contradict each other, and whether one of them names a
+    pre-release. No plain version, one without a local part that is no post-release, is accepted by all these
+    lines. For a list that `read` has read, and that isn't plain, the numbers count its `lines`, and `places`
+    is where these stand."""
 
     name: str
     lines: Tuple[int, ...]
     names_prerelease: bool
+    places: Tuple[str, ...] = field(default=(), repr=False)
 
     def __str__(self) -> str:
-        return f"{self.name} {','.join(map(str, self.lines))}{' pre' if self.names_prerelease else ''}"
+        return f"{self.name} {','.join(self.places or map(str, self.lines))}{' pre' if self.names_prerelease else ''}"
 
 
 @dataclass(frozen=True)
 class Input:
-    """An input of a call: its name, its bytes, and the file that it was read from."""
+    """An input of a call: its name, its bytes, the file that it was read from, and the list that a reader made of that, where
+    its lines are others than the file's."""
 
     name: str
     text: bytes
     path: Optional[str] = None
+    listing: Optional[Listing] = None
+
+    def place(self, number: int) -> str:
+        """Where a line came from."""
+        return str(self.listing.place(number)) if self.listing else f"{self.path or self.name}: line {number}"
 
 
 def as_bytes(name: str, given: Any, otherwise: Callable[[Any], str]) -> Input:
-    """An input that is a text, a path, or something of which `otherwise` makes a text."""
+    """An input that is a text, a path, or something that `otherwise` turns into a text; or one that was made
+    before."""
+    if isinstance(given, Input):
+        return given
     if isinstance(given, (bytes, bytearray)):
         return Input(name, bytes(given))
     if isinstance(given, os.PathLike):
@@ -146,23 +177,36 @@ def as_bytes(name: str, given: Any, otherwise: Callable[[Any], str]) -> Input:
 def requirements_input(given: Requirements, name: str = "requirements") -> Input:
     if isinstance(given, str) and _PATH.fullmatch(given):
         raise InvalidInput(f"{name}: {given!r} is read as a list's text: give a pathlib.Path for a file", input=name)
-    read = as_bytes(name, given, lambda lines: _joined(name, lines))
+    if isinstance(given, Listing):
+        read = Input(name, given.text, given.path, None if given.is_plain else given)
+    else:
+        read = as_bytes(name, given, lambda lines: _joined(name, lines))
     if _WITH_URL.search(read.text):
         _warn_of_urls(read)
     return read
+
+
+def _asking_input(given: Requirements, name: str = "requirements") -> Input:
+    """An input of which each line asks for something: constraints as lines that apply where others do."""
+    if isinstance(given, Listing) and given.has_constraints:
+        try:
+            given = given.without_constraints()
+        except TooLong as error:
+            raise unread(error.place, error.why, name) from None
+    return requirements_input(given, name)
 
 
 def _warn_of_urls(given: Input) -> None:
     """Warns of each line whose URL ends in a marker."""
     for number, line in enumerate(given.text.split(b"\n"), 1):
         if _WITH_URL.search(line):
-            url = _url_of(_COMMENT.sub("", line.decode("utf-8", "replace")))
-            warn_of_marker_in(url, f"{given.path or given.name}: line {number}: ")
+            url = _url_of(COMMENT.split(line.decode("utf-8", "replace"), maxsplit=1)[0])
+            warn_of_marker_in(url, f"{given.place(number)}: ")
 
 
 def _url_of(text: str) -> str:
-    """The URL of a requirement without a marker. Nothing where it has none, or has a marker, or where the text is no
-    requirement."""
+    """The URL of a requirement without a marker. Empty if it has no URL, or has a marker, or if the text is
+    not a requirement."""
     try:
         parts = _native.requirement(_native.encoded(text))
     except _native.Fault:
@@ -171,13 +215,14 @@ def _url_of(text: str) -> str:
 
 
 def _joined(name: str, lines: Iterable[Union[str, Requirement]]) -> str:
-    """Lines as one text. Each may end with a line feed, as those of a file do, and has no other."""
+    """Lines as one text. Each may end with a line feed, as the lines of a file do, and has no other."""
     texts = [_line(name, number, it) for number, it in enumerate(lines, 1)]
     return "".join(f"{it}\n" for it in texts)
 
 
 def _line(name: str, number: int, given: Union[str, Requirement]) -> str:
-    """One line without its end. A requirement isn't printed for it: its marker may have no text that reads back."""
+    """One line without its end. A requirement isn't printed for it, since its marker may have no text that
+    reads back."""
     try:
         text = given._line() if isinstance(given, Requirement) else str(given).rstrip("\r\n")
     except InvalidRequirement as error:
@@ -200,7 +245,7 @@ def candidates_input(given: Candidates) -> Input:
 
 
 def _candidate_lines(given: Any) -> str:
-    """A line for each candidate, of which the library reads no more and nothing else than it says."""
+    """A line for each candidate, which the library reads as exactly this candidate."""
     pairs = _candidate_pairs(given) if isinstance(given, Mapping) else list(given)
     if any(isinstance(it, str) for it in pairs):
         raise TypeError("a candidate is a pair of a name and a version, not a text")
@@ -219,7 +264,7 @@ def _candidate_line(name: str, version: Union[str, Version]) -> str:
 
 
 def _candidate_pairs(given: Mapping[str, Any]) -> List[Tuple[str, Union[str, Version]]]:
-    """The pairs of a mapping, in which one version may stand by itself."""
+    """The pairs of a mapping, in which a single version needs no list."""
     of_names = ((name, [it] if isinstance(it, (str, Version)) else it) for name, it in given.items())
     return [(name, version) for name, versions in of_names for version in versions]
 
@@ -232,7 +277,7 @@ def extras_input(given: Extras) -> Input:
 
 
 def answered(call: Callable[..., Answer], *inputs: Input, limit: Optional[int] = None) -> Answer:
-    """What a call answers, or the error that tells which input is refused and where."""
+    """The answer of a call, or the error with the input that is refused and the place in it."""
     more = () if limit is None else (_checked(limit),)
     try:
         return call(*(it.text for it in inputs), *more)
@@ -241,7 +286,7 @@ def answered(call: Callable[..., Answer], *inputs: Input, limit: Optional[int] =
 
 
 def _checked(limit: int) -> int:
-    """A limit that `reqs` would take: the library is handed 64 bits of it, and sees no others."""
+    """A limit that `reqs` accepts: the library gets 64 bits of it, and sees no others."""
     number = operator.index(limit)
     if not 0 <= number <= GREATEST_LIMIT:
         raise InvalidInput(f"limit: {number} is not from 0 to {GREATEST_LIMIT}", input="limit")
@@ -257,9 +302,50 @@ def _refusal(fault: _native.Fault, inputs: Sequence[Input]) -> InvalidInput:
     line = given.text.split(b"\n")[fault.line - 1]
     start, end = characters(line, fault.start, fault.length) if fault.start or fault.length else (None, None)
     text = line.decode("utf-8", "replace")
+    if given.listing is not None:
+        return _told_where(fault.message, given.name, given.listing.located(fault.line, start or 0, end or 0))
     return InvalidInput(
         fault.message, input=given.name, path=given.path, text=text, line=fault.line, start=start, end=end
     )
+
+
+def _told_where(message: str, name: str, at: Located) -> InvalidInput:
+    """A refusal of a line by the place that it came from, in the library's words."""
+    found = _OF_LINE.match(message)
+    if found is None:
+        raise AssertionError(f"{message!r} tells of no line")
+    why = message[found.end() :]
+    if not found[1]:
+        return unread(at.place, why, name, at.text)
+    # (what follows are the line and a caret below it)
+    return refused(at, "\n".join(why.split("\n")[:-2]), name)
+
+
+def refused(at: Located, why: str, name: str = "requirements") -> InvalidInput:
+    """The error of a part of a line, told as the library tells one."""
+    start, end = (len(_native.encoded(at.text[:it])) for it in (at.start, at.end))
+    marks = " " * columns(at.text[: at.start]) + "^" * max(1, columns(at.text[at.start : at.end]))
+    return InvalidInput(
+        f"{name}: {at.place.within}, byte {start}, length {end - start}\n{why}\n{at.text}\n{marks}", input=name,
+        path=at.place.path, text=at.text, line=at.place.line, start=at.start, end=at.end, entry=at.place.entry,
+    )  # fmt: skip
+
+
+def unread(place: Place, why: str, name: str = "requirements", text: Optional[str] = None) -> InvalidInput:
+    """The error of a place in a file, or of the file as a whole; `text` is what stands there, where it is told."""
+    front = f"{place.within}: " if place.within else ""
+    return InvalidInput(
+        f"{name}: {front}{why}", input=name, path=place.path, text=text, line=place.line, entry=place.entry
+    )  # fmt: skip
+
+
+def decoded(path: str, data: bytes, name: str = "requirements") -> str:
+    """The text of a file in UTF-8. Raises `InvalidInput` for any other, by its line."""
+    try:
+        return data.decode("utf-8")
+    except UnicodeDecodeError as error:
+        line = data.count(b"\n", 0, error.start) + 1
+        raise unread(Place(path, line), f"not UTF-8 at byte {error.start} of the file", name) from None
 
 
 def rows_of(text: str) -> List[Row]:
@@ -274,13 +360,23 @@ def rows_of(text: str) -> List[Row]:
 
 
 def check(
-    requirements: Requirements, environment: Environment = None, candidates: Candidates = None, extras: Extras = ()
+    requirements: Requirements,
+    environment: Environment = None,
+    candidates: Candidates = None,
+    extras: Extras = (),
+    *,
+    ignore_requires_python: bool = False,
 ) -> List[Row]:
-    """For each package that a line which applies asks for, by name, the greatest candidate that all these lines take.
+    """For each package that an applicable line requires, by name, the highest candidate that all these lines
+    accept.
 
-    `environment` has values in place of the running interpreter's, `candidates` are names with versions, by default what is
-    installed, and `extras` are those that are asked for. A pre-release is taken only where a line names one. The versions of
-    an interpreter of a pre-release are read as `Marker.evaluate` says, but in an environment that is a text or a file.
+    `environment` has values that replace the running interpreter's, `candidates` are names with versions, by
+    default what is installed, and `extras` are the required ones. A pre-release is selected only if a line
+    names one. The versions of an interpreter of a pre-release are read as `Marker.evaluate` says, except in
+    an environment that is a text or a file. Raises `InvalidInput` for an input that is refused.
+
+    Of a list that `read` has read its constraints hold for what other lines ask for, and an environment that its file doesn't
+    admit, by `requires-python` or a lock file's `environments`, raises `InvalidInput`, unless `ignore_requires_python` is set.
 
     >>> candidates = {"requests": ["2.31.0", "2.33.0rc1"], "numpy": ["1.26.3"]}
     >>> for row in check(["requests[socks]>=2.8.1", "NumPy==1.26.4"], candidates=candidates):
@@ -292,7 +388,41 @@ def check(
         requirements_input(requirements), environment_input(environment), candidates_input(candidates),
         extras_input(extras),
     )  # fmt: skip
-    return rows_of(answered(_native.check, *inputs))
+    return rows_checked(inputs, ignore_requires_python)
+
+
+def rows_checked(inputs: Tuple[Input, Input, Input, Input], ignore_requires_python: bool = False) -> List[Row]:
+    """The rows of `check`, of its inputs."""
+    rows = rows_of(answered(_native.check, *inputs))
+    listing = inputs[0].listing
+    if listing is not None and listing.has_constraints:
+        asked = rows_of(answered(_native.check, Input("requirements", listing.asking), *inputs[1:]))
+        names = {it.name for it in asked}
+        rows = [it for it in rows if it.name in names]
+    if listing is not None and not ignore_requires_python:
+        _hold_to_file(listing, inputs[1], json.loads(inputs[1].text), inputs[3])
+    return rows
+
+
+def _hold_to_file(
+    listing: Listing, given: Input, environment: Mapping[str, str], extras: Input, number: Optional[int] = None
+) -> None:
+    """Refuses an environment that the file of a list doesn't admit: by its Python, as pip does by the numbers of
+    the release, and for a line that asks for one where it applies; or by the markers of which some one has to hold."""
+    front = f"{given.name}: " if number is None else f"{given.name}: environment {number}: "
+    full = environment.get("python_full_version", "")
+    alone = Input(given.name, _native.encoded(json.dumps(environment)))
+    for it in listing.assumed:
+        if it.what != REQUIRES_PYTHON or SpecifierSet(it.text).contains(Version(full).base_version):
+            continue
+        line = Input("requirements", _native.encoded(it.line))
+        if not it.line or answered(_native.check, line, alone, Input("candidates", b""), extras):
+            why = f"Python {full} is not in {it.text}, which {it.place} asks for"
+            raise InvalidInput(f"{front}{why}", input=given.name, path=given.path)
+    markers = _native.encoded("\n".join(it.text for it in listing.assumed if it.what == ENVIRONMENTS))
+    if markers and b"1" not in _native.markers_hold(markers, alone.text, b""):
+        why = f"none of the markers holds that {listing.path}: {ENVIRONMENTS} has"
+        raise InvalidInput(f"{front}{why}", input=given.name, path=given.path)
 
 
 def matrix(
@@ -301,11 +431,15 @@ def matrix(
     candidates: Candidates = None,
     extras: Extras = (),
     limit: int = LIMIT,
+    *,
+    ignore_requires_python: bool = False,
 ) -> List[List[Row]]:
-    """What `check` answers for each of some environments, which are whole ones: of each no value is the running one's. The
-    versions of a mapping are read as `Marker.evaluate` says, those of a text or a file as they stand there.
+    """The rows of `check` for each of some environments, which are complete: no value is taken from the
+    running interpreter. The versions of a mapping are read as `Marker.evaluate` says, those of a text or a
+    file as they are written.
 
-    A package may have `limit` cases, which are sets of its lines that apply together.
+    A package may have `limit` cases, which are sets of its lines that apply together. Raises `InvalidInput`
+    for an input that is refused, and for the first package by name with more cases.
 
     >>> from fowlyore import default_environment
     >>> linux = {**default_environment(), "sys_platform": "linux"}
@@ -313,7 +447,10 @@ def matrix(
     >>> matrix("colorama ; sys_platform == 'win32'", [linux, windows], {"colorama": ["0.4.6"]})
     [[], [Row(name='colorama', extras=(), outcome='0.4.6')]]
     """
-    return [rows_of(it) for it in matrix_texts(requirements, environments, candidates, extras, limit)]
+    texts = matrix_texts(
+        requirements, environments, candidates, extras, limit, ignore_requires_python=ignore_requires_python
+    )  # fmt: skip
+    return [rows_of(it) for it in texts]
 
 
 def matrix_texts(
@@ -322,10 +459,12 @@ def matrix_texts(
     candidates: Candidates = None,
     extras: Extras = (),
     limit: int = LIMIT,
+    *,
+    ignore_requires_python: bool = False,
 ) -> List[str]:
     """The rows of `matrix` as one text for each environment, which is what `reqs check` prints for it.
 
-    Of large answers that takes a small part of the time and of the memory.
+    For large answers this needs a small part of the time and of the memory of `matrix`.
 
     >>> environment = environment_json(completed(None)).decode()
     >>> matrix_texts("b>=1\\na", f"[{environment}, {environment}]", {"a": ["1"], "b": []})
@@ -335,6 +474,29 @@ def matrix_texts(
         requirements_input(requirements), environments_input(environments), candidates_input(candidates),
         extras_input(extras),
     )  # fmt: skip
+    texts = _texts_of_matrix(inputs, limit)
+    listing = inputs[0].listing
+    if listing is not None and listing.has_constraints:
+        asked = _texts_of_matrix((Input("requirements", listing.asking), *inputs[1:]), limit)
+        texts = [_rows_of_names(text, _names_of(those)) for text, those in zip(texts, asked)]
+    if listing is not None and not ignore_requires_python:
+        for number, it in enumerate(json.loads(inputs[1].text), 1):
+            _hold_to_file(listing, inputs[1], it, inputs[3], number)
+    return texts
+
+
+def _names_of(text: str) -> Set[str]:
+    """The names of rows."""
+    return {it.split(" ", 1)[0].split("[", 1)[0] for it in _native.lines_of(text)}
+
+
+def _rows_of_names(text: str, names: Set[str]) -> str:
+    """The rows of some names."""
+    return "".join(f"{it}\n" for it in _native.lines_of(text) if it.split(" ", 1)[0].split("[", 1)[0] in names)
+
+
+def _texts_of_matrix(inputs: Tuple[Input, Input, Input, Input], limit: int) -> List[str]:
+    """The rows of each environment, as one text."""
     texts = texts_of(answered(_native.matrix, *inputs, limit=limit))
     listed = json.loads(inputs[1].text)
     if len(texts) == len(listed):
@@ -345,43 +507,68 @@ def matrix_texts(
 
 
 def texts_of(answer: str) -> List[str]:
-    """What stands behind each line of `env` with a number."""
+    """The texts after the lines of `env` with a number."""
     found = [it.span() for it in re.finditer(r"\nenv [0-9]+(?=\n)", f"\n{answer}")]
     ends = [*(begin for begin, _ in found[1:]), len(answer)]
     return [answer[begin:end] for (_, begin), end in zip(found, ends)]
 
 
 def same(left: Requirements, right: Requirements, limit: int = LIMIT) -> Comparison:
-    """Whether two lists require the same of every package, whatever their markers come to, and else where they first differ.
+    """Whether two lists require the same of every package, whatever the truth of their markers is, and if
+    not, where they first differ.
+
+    What is compared of a package is whether it is required, its extras, its version range, and whether a
+    specifier names a pre-release. Ranges decide only plain versions, those without a local part that are no
+    post-releases. So of two lists that require the same, `check` can still select different builds: as of
+    `torch==2.0+cu118` with `torch<=2.0`, and `torch==2.0+cu121` with `torch<=2.0`. Ranges also differ in
+    points between versions, as those of `~=1.2` and `>=1.2,<2` do. Raises `InvalidInput` for a list that is
+    refused, for the first line that can't be compared, and for a package with more cases than `limit`.
 
     >>> bool(same("foo>=1,<2", ["foo<2.0", "foo>=1"]))
     True
     >>> same("foo>=1", "foo>=1\\nfoo<2 ; os_name == 'nt'")
     Comparison(package='foo', place="os_name == 'nt'")
     """
-    answer = answered(_native.same, requirements_input(left, "left"), requirements_input(right, "right"), limit=limit)
+    answer = answered(_native.same, _asking_input(left, "left"), _asking_input(right, "right"), limit=limit)
     lines = _native.lines_of(answer)
     return Comparison() if lines == ["yes"] else Comparison(lines[1], lines[2])
 
 
 def conflicts(requirements: Requirements, limit: int = LIMIT) -> List[Conflict]:
-    """The lines of a list that contradict each other where they apply together.
+    """The lines of a list that contradict each other when they apply together: their version ranges have no
+    point in common.
+
+    No plain version, one without a local part that is no post-release, is accepted by all lines of a
+    conflict. Other versions may be: `torch==2.0+cu118` and `torch<=2.0` are a conflict, and both accept
+    2.0+cu118. Raises `InvalidInput` for a list that is refused, and for the first package by name with more
+    cases than `limit`.
 
     >>> conflicts(["numpy>=1.26", "numpy<1.26 ; sys_platform == 'win32'"])
     [Conflict(name='numpy', lines=(1, 2), names_prerelease=False)]
     """
-    answer = answered(_native.conflicts, requirements_input(requirements), limit=limit)
+    given = requirements_input(requirements)
+    answer = answered(_native.conflicts, given, limit=limit)
     found = []
     for line in _native.lines_of(answer):
         name, numbers, *pre = line.split(" ")
         found.append(Conflict(name, tuple(map(int, numbers.split(","))), bool(pre)))
-    return found
+    return found if given.listing is None else _placed(found, given.listing)
+
+
+def _placed(found: List[Conflict], listing: Listing) -> List[Conflict]:
+    """Conflicts with the places of their lines, but for those of constraints alone, which ask for nothing."""
+    asking = (it for it in found if not all(map(listing.is_constraint, it.lines)))
+    return [
+        Conflict(it.name, it.lines, it.names_prerelease, tuple(listing.place(at).beside(listing.path) for at in it.lines))
+        for it in asking
+    ]  # fmt: skip
 
 
 def normal(requirements: Requirements) -> List[str]:
-    """The lines of a list in one normal form, without those that never apply.
+    """The lines of a list in one normal form, without those that never apply. Raises `InvalidInput` for a
+    list that is refused, and for the first line that has no normal form.
 
     >>> normal("Foo_Bar [b , a] < 2.0 , >= 1.16 ; python_version >= '3.8'")
     ["foo-bar[b,a]>=1.16,<2.0 ; python_full_version >= '3.8'"]
     """
-    return _native.lines_of(answered(_native.normal, requirements_input(requirements)))
+    return _native.lines_of(answered(_native.normal, _asking_input(requirements)))

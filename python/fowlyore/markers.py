@@ -27,7 +27,7 @@ _PIECE = re.compile(r"""'[^']*'|"[^"]*"|[()]|\bor\b""")
 
 
 class InvalidMarker(Refused):
-    """A text is no marker.
+    """A text is not a marker.
 
     >>> Marker("python_version >= ")
     Traceback (most recent call last):
@@ -36,11 +36,11 @@ class InvalidMarker(Refused):
 
 
 class UndefinedComparison(ValueError):
-    """For code that catches it: such a comparison is passed over here, and nothing raises this."""
+    """For code that catches it: such a comparison is ignored here, and nothing raises this."""
 
 
 class UndefinedEnvironmentName(Refused):
-    """An environment lacks a value, or has a version that is none."""
+    """An environment lacks a value, or has an invalid version."""
 
 
 def _full_version(info: Any) -> str:
@@ -49,9 +49,9 @@ def _full_version(info: Any) -> str:
 
 
 def default_environment() -> Dict[str, str]:
-    """The values of the running interpreter for PEP 508's environment markers: a text for each of eleven names, as
-    packaging's function returns them. `python_full_version` is the interpreter's own, as `3.14.0rc1`. `Marker.evaluate`
-    and the functions on lists read that as 3.14.0 (see `Marker.evaluate`).
+    """The values of the running interpreter for PEP 508's environment markers: a text for each of eleven
+    names, as packaging's function returns them. `python_full_version` is the interpreter's own, as
+    `3.14.0rc1`. `Marker.evaluate` and the functions on lists read that as 3.14.0 (see `Marker.evaluate`).
 
     >>> sorted(default_environment())[:4]
     ['implementation_name', 'implementation_version', 'os_name', 'platform_machine']
@@ -76,8 +76,8 @@ MEMBERS = frozenset(default_environment())
 
 
 def completed(given: Optional[Mapping[str, Any]]) -> Dict[str, Any]:
-    """The running interpreter's environment with other values put in. Markers read `python_full_version` alone, so that it
-    follows where only `python_version` is given."""
+    """The running interpreter's environment with other values put in. Markers read only
+    `python_full_version`, so that it follows `python_version` if only that is given."""
     environment: Dict[str, Any] = dict(default_environment())
     if given is not None:
         environment.update(given)
@@ -87,8 +87,8 @@ def completed(given: Optional[Mapping[str, Any]]) -> Dict[str, Any]:
 
 
 def environment_json(environment: Mapping[str, Any]) -> bytes:
-    """The JSON that the library reads of an environment: its members as they are, but that `python_full_version` is
-    `full_version_read`."""
+    """The JSON that the library reads of an environment: its members as they are, except that
+    `python_full_version` is `full_version_read`."""
     values = {key: value for key, value in environment.items() if key in MEMBERS}
     full = values.get("python_full_version")
     if isinstance(full, str):
@@ -99,12 +99,13 @@ def environment_json(environment: Mapping[str, Any]) -> bytes:
 def full_version_read(full: str, short: object) -> str:
     """The text that the library reads for an environment's `python_full_version`.
 
-    The library compares `python_version` by this version, and 3.14.0rc1 is less than 3.14 (PEP 440, Summary of permitted
-    suffixes and relative ordering), though `python_version` is 3.14 on such an interpreter (PEP 508, Environment Markers).
-    So where `short`, the environment's `python_version`, is the first two numbers of `full`, a pre-release or developmental
-    release is read as its release, and a version with a local part as the version without it, which is how PEP 440
-    compares it with a version that has none. A build that isn't tagged ends in `+`, which counts as a local part. Every
-    other text is read as it is given, but that a `+` at its end, which no version has, becomes `+local`.
+    The library compares `python_version` by this version, and 3.14.0rc1 is less than 3.14 (PEP 440, Summary
+    of permitted suffixes and relative ordering), though `python_version` is 3.14 on such an interpreter (PEP
+    508, Environment Markers). So if `short`, the environment's `python_version`, is the first two numbers of
+    `full`, a pre-release or developmental release is read as its release, and a version with a local part as
+    the version without it, which is how PEP 440 compares it with a version that has none. A build that isn't
+    tagged ends in `+`, which counts as a local part. Every other text is read as it is given, except that a
+    `+` at its end, which no version has, becomes `+local`.
 
     >>> full_version_read("3.14.0rc1", "3.14"), full_version_read("3.14.0+", "3.14"), full_version_read("3.14.0rc1", "3.13")
     ('3.14.0', '3.14.0', '3.14.0rc1')
@@ -122,7 +123,7 @@ def full_version_read(full: str, short: object) -> str:
 
 
 class _Shape(NamedTuple):
-    """Of a marker's text whether an `or` stands outside its brackets, and how deep these nest."""
+    """Whether a marker's text has an `or` outside its brackets, and how deep these are nested."""
 
     has_or: bool
     depth: int
@@ -139,13 +140,15 @@ def _shape_of(text: str) -> _Shape:
 
 @functools.total_ordering
 class Marker:
-    """A marker. Markers are equal exactly where they hold under the same conditions, however they are written. A
-    condition is a value for each key, an answer to each `in` and `not in`, and a set of extras, all independent of one
-    another. `<` is a total order, of the bytes by which markers are compared, and means nothing more.
+    """A marker. Markers are equal exactly if they hold under the same conditions, however they are written. A
+    condition is a value for each key, an answer to each `in` and `not in`, and a set of extras, all
+    independent of one another. `<` is a total order, of the bytes by which markers are compared, and means
+    nothing more.
 
-    Making a marker checks its text. The bytes by which it is compared and hashed are computed when they are first
-    needed, and so is the normal text that `str` and `repr` return. The text can be exponentially longer than the
-    marker, and so can the bytes, though they seldom are.
+    Making a marker checks its text. The bytes by which it is compared and hashed are computed on first use,
+    and so is the normal text that `str` and `repr` return. The text can be exponentially longer than the
+    marker, and so can the bytes, though they seldom are. Raises `InvalidMarker` for a text that is not a
+    marker.
 
     >>> marker = Marker('python_version>"3.7" and os.name == "nt"')
     >>> marker == Marker('os.name == "nt" and python_full_version >= "3.8.0"')
@@ -184,9 +187,10 @@ class Marker:
         return self.__class__, (self._given,)
 
     def __str__(self) -> str:
-        """The normal text, which equal markers have in common. Where there is none it is the text that was given: of a
-        marker that always or never holds, or that has a single quote in a text, an older name of a key, or a version
-        that is more than release numbers of epoch 0. Either text reads back as an equal marker.
+        """The normal text, which equal markers have in common. If there is none it is the text that was
+        given: for a marker that always or never holds, or that has a string with a single quote, a deprecated
+        name of a key, or a version that is more than release numbers of epoch 0. Either text reads back as an
+        equal marker.
 
         >>> print(Marker("'x'==platform_version"))
         platform_version == 'x'
@@ -249,7 +253,7 @@ class Marker:
         return self._truth
 
     def is_disjoint(self, other: "Marker") -> bool:
-        """Whether both markers hold under no condition (see the class).
+        """Whether both markers hold together under no condition (see the class).
 
         >>> Marker("python_version < '3.8'").is_disjoint(Marker("python_full_version >= '3.8.1'"))
         True
@@ -265,7 +269,7 @@ class Marker:
         return _native.marker_implies(self._bytes(), other._bytes())
 
     def __and__(self, other: "Marker") -> "Marker":
-        """The marker that holds where both do.
+        """The conjunction: a marker that holds where both do.
 
         >>> Marker("os_name == 'nt' or os_name == 'posix'") & Marker("os_name != 'nt'") & Marker("extra == 'x'")
         <Marker("os_name == 'posix' and extra == 'x'")>
@@ -280,7 +284,7 @@ class Marker:
         return marker_of(f"{left} and {right}", _Shape(False, max(left_depth, right_depth)))
 
     def __or__(self, other: "Marker") -> "Marker":
-        """The marker that holds where one of them does.
+        """The disjunction: a marker that holds where one of them does.
 
         >>> Marker("os_name == 'nt'") | Marker("os_name == 'posix'")
         <Marker("os_name == 'nt' or os_name == 'posix'")>
@@ -295,16 +299,17 @@ class Marker:
         return marker_of(f"{self._given} or {other._given}", _Shape(True, depth))
 
     def _may_be_left_out(self) -> bool:
-        """Whether it always holds, and perhaps because none of its comparisons means anything: by itself such a marker
-        holds, but `and` and `or` pass over it. What `&` and `|` made has a comparison that means something."""
+        """Whether it always holds, and perhaps because none of its comparisons means anything: by itself such
+        a marker holds, but `and` and `or` ignore it. What `&` and `|` made has a comparison that means
+        something."""
         return self._shape is None and self.is_true()
 
     def _shaped(self) -> _Shape:
         return _shape_of(self._given) if self._shape is None else self._shape
 
     def _as_term(self) -> Tuple[str, int]:
-        """Its text as a term of `and`, and how deep brackets nest there. Where they would nest too deep it is another
-        text, in which they don't, if there is one."""
+        """Its text as a term of `and`, and how deep brackets are nested there. If they would be too deep it
+        is another text, in which they aren't, if there is one."""
         text, shape = self._given, self._shaped()
         if shape.has_or and shape.depth == _DEEPEST:
             text = self._normal_text() or _CONSTANTS.get(self._constant(), text)
@@ -315,8 +320,9 @@ class Marker:
         return self.negate()
 
     def negate(self) -> "Marker":
-        """The marker that holds where this one doesn't. It is made from its normal text, whose length is what this
-        costs, and `InvalidMarker` is raised where it has none, unless it always or never holds (see `__str__`).
+        """The negation: the marker that holds where this one doesn't. It is made from its normal text, at the
+        cost of that text's length. Raises `InvalidMarker` if it has none, unless it always or never holds
+        (see `__str__`).
 
         >>> Marker("os_name == 'nt' and python_version >= '3.8'").negate()
         <Marker("python_full_version < '3.8' or os_name != 'nt'")>
@@ -324,8 +330,8 @@ class Marker:
         return self._answer(InvalidMarker, _native.marker_negated)
 
     def simplify_python_versions(self, lower: Bound = None, upper: Bound = None) -> "Marker":
-        """A marker that holds as this one does where `python_full_version` is at least `lower` and below `upper`,
-        without the comparisons that this decides. It is made from its normal text, as by `negate`.
+        """A marker that holds as this one does where `python_full_version` is at least `lower` and below
+        `upper`, without the comparisons that this decides. It is made from its normal text, as by `negate`.
 
         >>> marker = Marker("python_version >= '3.8' and python_version < '3.12' and os_name == 'nt'")
         >>> marker.simplify_python_versions(lower="3.9")
@@ -356,14 +362,15 @@ class Marker:
         return marker_of(_CONSTANTS[b"0"])
 
     def evaluate(self, environment: Optional[Mapping[str, Any]] = None, context: EvaluateContext = "metadata") -> bool:
-        """Whether the marker holds for the running interpreter, with the values of `environment` in place of its own. There
-        `extra` is the one extra that is asked for, none where it is empty. `context` is taken as packaging has it, and says
-        nothing here.
+        """Whether the marker holds for the running interpreter, with the values of `environment` instead of
+        its own. There `extra` is the one extra that is required, or empty for none. `context` is accepted for
+        compatibility with packaging, and has no effect.
 
-        `python_version` is compared by `python_full_version`. Where that is a pre-release or developmental release, or has a
-        local part or a `+` at its end, and `python_version` is its first two numbers, it is read as the release: on 3.14.0rc1
-        both are compared as those of 3.14.0. `UndefinedEnvironmentName` is raised where the environment has an invalid
-        version, an `extra` that is no name, or a value that isn't a text.
+        `python_version` is compared by `python_full_version`. If that is a pre-release or developmental
+        release, or has a local part or a `+` at its end, and `python_version` is its first two numbers, it is
+        read as the release: on 3.14.0rc1 both are compared as those of 3.14.0. Raises
+        `UndefinedEnvironmentName` if the environment has an invalid version, an `extra` that is not a name,
+        or a value that isn't a text.
 
         >>> Marker("extra == 'test'").evaluate(), Marker("extra == 'test'").evaluate({"extra": "Test"})
         (False, True)
@@ -377,7 +384,7 @@ class Marker:
 
 
 def marker_of(text: str, shape: Optional[_Shape] = None) -> Marker:
-    """The marker of a text that is known to be one, but for brackets that may nest too deep."""
+    """The marker of a text that is known to be one, except that its brackets may be nested too deep."""
     if shape is not None and shape.depth > _DEEPEST:
         return Marker(text)
     marker = Marker.__new__(Marker)
@@ -386,7 +393,8 @@ def marker_of(text: str, shape: Optional[_Shape] = None) -> Marker:
 
 
 def _lines_of(extras: Iterable[str]) -> str:
-    """Extras one a line, as the library reads them: it passes over empty lines."""
+    """Extras one per line, as the library reads them: it skips empty lines, so an empty extra is refused
+    here."""
     lines = list(extras)
     for it in lines:
         if "\n" in it or not it:

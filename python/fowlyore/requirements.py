@@ -17,7 +17,7 @@ _FRONT = re.compile(r"\s*([A-Za-z0-9](?:[A-Za-z0-9._-]*[A-Za-z0-9])?)\s*(?:\[([^
 
 
 class InvalidRequirement(Refused):
-    """A text is no requirement.
+    """A text is not a requirement.
 
     >>> Requirement("name=1")
     Traceback (most recent call last):
@@ -28,11 +28,12 @@ class InvalidRequirement(Refused):
 class Requirement:
     """A requirement: a name, extras, specifiers or a URL, and a marker.
 
-    Name and extras are as they were written, and compared by their normal names. The marker is None where none was
-    written; to compare, that is as one that always holds. All of these can be set. The functions on lists read the
-    text that a requirement was made of, or, where a part was set, one that says what its parts are now. A URL that ends in
-    `;` and a marker, without white space before the `;`, is read as a URL with that at its end, of which
-    `MarkerInURLWarning` warns.
+    Name and extras are as they were written, and compared by their normal names. The marker is None if none
+    was written, which compares equal to one that always holds. All of these can be set. The functions on
+    lists read the text that a requirement was made from, or, if a part was set, one with the parts that it
+    has then. A URL that ends in `;` and a marker, without white space before the `;`, is read as a URL with
+    that at its end, of which `MarkerInURLWarning` warns. Raises `InvalidRequirement` for a text that is not a
+    requirement.
 
     >>> requirement = Requirement('Requests[Socks]>=2.8.1, == 2.8.* ; python_version > "3.7"')
     >>> requirement.name, requirement.extras, str(requirement.specifier), str(requirement.marker)
@@ -64,12 +65,12 @@ class Requirement:
 
     @cached_property
     def specifier(self) -> SpecifierSet:
-        """The specifiers, empty where there are none."""
+        """The specifiers, empty if there are none."""
         return self._read_specifier
 
     @cached_property
     def marker(self) -> Optional[Marker]:
-        """The marker, or None where none was written."""
+        """The marker, or None if none was written."""
         return self._read_marker
 
     @cached_property
@@ -93,8 +94,8 @@ class Requirement:
         )
 
     def _line(self) -> str:
-        """Its line in a list: the given text where no part was set, and else one that says what its parts are now. That
-        is read back, and `InvalidRequirement` raised where other parts are read.
+        """Its line in a list: the given text if no part was set, and otherwise one with its current parts.
+        That text is read back, and `InvalidRequirement` is raised if other parts are read.
 
         >>> requirement = Requirement("foo >= 1 ; os_name == 'nt'")
         >>> requirement._line()
@@ -123,11 +124,11 @@ class Requirement:
         return parts.name, frozenset(parts.extras.split(","))
 
     def _condition(self) -> Optional[Marker]:
-        """The marker, or None where it always holds."""
+        """The marker, or None if it always holds."""
         return None if self.marker is None or self.marker.is_true() else self.marker
 
     def _text(self, marker: str) -> str:
-        """What it says, with a marker of this text; of an empty one with none."""
+        """The text of its parts, with this marker text; without a marker if that is empty."""
         url = f"@ {self.url}" + (" " if marker else "") if self.url else ""
         return f"{self._front()}{self.specifier}{url}" + (f"; {marker}" if marker else "")
 
@@ -152,5 +153,5 @@ class Requirement:
 
 
 def given_text(marker: Optional[Marker]) -> str:
-    """A marker's text as it was given, and none of what isn't there."""
+    """A marker's text as it was given; empty for None."""
     return "" if marker is None else marker._given

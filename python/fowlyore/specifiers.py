@@ -1,13 +1,13 @@
 """Specifiers and sets of them (PEP 440, Version specifiers).
 
-What a specifier takes is the library's answer. Which pre-releases are let in is decided here, as packaging 25 does it.
+Which versions a specifier accepts is the library's answer. Which pre-releases are let in is decided here, as
+by packaging 25.
 
-`is_disjoint`, `is_subset` and `is_empty` compare specifiers as ranges. A range is a set of points on the line of
-versions: each version, pre-releases too, and each place between versions. The answers are exact over these points. So
-`>=1.2,<2` is a subset of `~=1.2`, but not the other way round: `~=1.2` goes up to `2.dev0`, and `<2` ends a little
-before, below all versions of release 2, though no version lies between these two places. `==1.0` is the one point 1.0,
-though it takes `1.0+local` too.
-"""
+`is_disjoint`, `is_subset` and `is_empty` compare specifiers as ranges. A range is a set of points on the line
+of versions: each version, including pre-releases, and each place between versions. The answers are exact over
+these points. So `>=1.2,<2` is a subset of `~=1.2`, but not the other way round: `~=1.2` goes up to `2.dev0`,
+and `<2` ends a little before, below all versions of release 2, though no version lies between these two
+places. `==1.0` is the single point 1.0, though it accepts `1.0+local` too."""
 
 from typing import Callable, FrozenSet, Iterable, Iterator, List, Optional, Tuple, TypeVar, Union
 
@@ -23,7 +23,7 @@ Ranged = Union["Specifier", "SpecifierSet", str]
 
 
 class InvalidSpecifier(Refused):
-    """A text is no specifier, or no list of them.
+    """A text is not a specifier, or not a list of them.
 
     >>> Specifier("=1.0")
     Traceback (most recent call last):
@@ -32,7 +32,7 @@ class InvalidSpecifier(Refused):
 
 
 def _members(text: str) -> List[str]:
-    """The normal texts of a list's members."""
+    """The normal texts of a list's members. Raises `InvalidSpecifier` for a text that is not a list."""
     if not isinstance(text, str):
         raise TypeError(f"a specifier is read from a str, not from {type(text).__name__}")
     try:
@@ -50,7 +50,7 @@ def _takes(specifiers: bytes, version: UnparsedVersion) -> bool:
 
 
 def _taken(specifiers: bytes, versions: List[UnparsedVersionVar]) -> List[UnparsedVersionVar]:
-    """The versions that are taken, in their order, by one call."""
+    """The versions that are accepted, in their order, by one call."""
     answers = _native.take(specifiers, _native.encoded(_lines(versions)))
     at = answers.find(b"?")
     if at >= 0:
@@ -59,7 +59,7 @@ def _taken(specifiers: bytes, versions: List[UnparsedVersionVar]) -> List[Unpars
 
 
 def _lines(versions: List[UnparsedVersionVar]) -> str:
-    """The versions' texts, one a line. Where all are texts, and none has a line feed, they are that as they are."""
+    """The versions' texts, one per line. Texts without a line feed are joined as they are."""
     if all(type(it) is str for it in versions):
         lines = "\n".join([*versions, ""])  # type: ignore[list-item]
         if lines.count("\n") == len(versions):
@@ -68,7 +68,7 @@ def _lines(versions: List[UnparsedVersionVar]) -> str:
 
 
 def _invalid(version: UnparsedVersion) -> InvalidVersion:
-    """The error for what the library says is no version."""
+    """The error for what the library reports as not a version."""
     try:
         Version(str(version))
     except InvalidVersion as error:
@@ -81,7 +81,7 @@ def _is_prerelease(version: UnparsedVersion) -> bool:
 
 
 def _of_ranges(call: Callable[..., bool], *given: "Ranged") -> bool:
-    """What a call says of specifiers as ranges."""
+    """The answer of a call on specifiers as ranges. Raises `InvalidSpecifier` for one without a range."""
     lists = [SpecifierSet(it) if isinstance(it, str) else it for it in given]
     for it in lists:
         if not isinstance(it, (Specifier, SpecifierSet)):
@@ -125,12 +125,13 @@ class Specifier:
 
     @property
     def version(self) -> str:
-        """The version as it was written, with its star."""
+        """The version as it was written, including its star."""
         return self._version
 
     @property
     def prereleases(self) -> bool:
-        """Whether pre-releases are let in: as it was set, or else whether the version is one and the operator isn't `!=`."""
+        """Whether pre-releases are let in: as it was set, or otherwise if the version is one and the operator
+        isn't `!=`."""
         if self._prereleases is not None:
             return self._prereleases
         try:
@@ -148,8 +149,8 @@ class Specifier:
 
     @property
     def _canonical(self) -> "Tuple[str, Union[str, bytes]]":
-        """The same for specifiers of one operator that take the same versions. The release's end counts beside `~=`, `===`
-        and a star."""
+        """A value that is equal for specifiers with the same operator that accept the same versions. Zeros at
+        the end of the release count after `~=`, after `===` and before a star."""
         if self._operator in ("~=", "===") or self._normal.endswith(".*"):
             return self._operator, self._normal
         return self._operator, Version(self._normal)._key
@@ -180,7 +181,8 @@ class Specifier:
         return self.contains(item)
 
     def contains(self, item: UnparsedVersion, prereleases: Optional[bool] = None) -> bool:
-        """Whether it takes a version; a pre-release only where `prereleases`, or else `self.prereleases`, says so.
+        """Whether it accepts a version; a pre-release only if `prereleases` is true, or, if that is None,
+        `self.prereleases`.
 
         >>> Specifier(">=1").contains("2.0rc1"), Specifier(">=1").contains("2.0rc1", prereleases=True)
         (False, True)
@@ -192,8 +194,8 @@ class Specifier:
     def filter(
         self, iterable: Iterable[UnparsedVersionVar], prereleases: Optional[bool] = None
     ) -> Iterator[UnparsedVersionVar]:
-        """The versions that it takes, in their order, by one call of the library. Where nothing but pre-releases is taken and
-        `prereleases` isn't False these are given.
+        """The versions that it accepts, in their order, by one call of the library. If only pre-releases are
+        accepted and `prereleases` isn't False, these are returned.
 
         >>> list(Specifier(">=1.2.3").filter(["1.2", "1.3", "1.5a1"]))
         ['1.3']
@@ -207,8 +209,8 @@ class Specifier:
         return iter(finals or (taken if prereleases is None else []))
 
     def is_disjoint(self, other: "Ranged") -> bool:
-        """Whether this range has no point in common with another one (see this module). As `is_subset` does, it raises
-        `InvalidSpecifier` for a range whose end would need a number past 64 bits.
+        """Whether this range has no point in common with another one (see this module). As `is_subset` does,
+        it raises `InvalidSpecifier` for a range whose end would need a number past 64 bits.
 
         >>> Specifier(">=2").is_disjoint("<2"), Specifier(">=2").is_disjoint("<=2")
         (True, False)
@@ -216,7 +218,7 @@ class Specifier:
         return _of_ranges(_native.disjoint, self, other)
 
     def is_subset(self, other: "Ranged") -> bool:
-        """Whether each point of this range lies in another one (see this module).
+        """Whether each point of this range is in another one (see this module).
 
         >>> Specifier(">1.2").is_subset(">=1.2"), Specifier("==1.2.*").is_subset(">=1.2")
         (True, False)
@@ -229,7 +231,7 @@ def _shown(prereleases: Optional[bool]) -> str:
 
 
 class SpecifierSet:
-    """A list of specifiers, of which all have to take a version.
+    """A list of specifiers, all of which have to accept a version.
 
     >>> specifiers = SpecifierSet(">=1.0,!=1.3, <2")
     >>> str(specifiers), len(specifiers), "1.2" in specifiers, "1.3" in specifiers
@@ -266,7 +268,8 @@ class SpecifierSet:
 
     @property
     def prereleases(self) -> Optional[bool]:
-        """Whether pre-releases are let in: as it was set, or else whether some member lets them in; None without members."""
+        """Whether pre-releases are let in: as it was set, or otherwise if some member lets them in; None
+        without members."""
         if self._prereleases is not None:
             return self._prereleases
         if not self._given:
@@ -323,8 +326,8 @@ class SpecifierSet:
     def contains(
         self, item: UnparsedVersion, prereleases: Optional[bool] = None, installed: Optional[bool] = None
     ) -> bool:
-        """Whether all members take a version; a pre-release only where `prereleases`, or else `self.prereleases`, says so.
-        Of an installed pre-release the base version is asked for.
+        """Whether all members accept a version; a pre-release only if `prereleases` is true, or, if that is
+        None, `self.prereleases`. For an installed pre-release the base version is tested.
 
         >>> SpecifierSet(">=1,<3").contains("2.0rc1"), SpecifierSet(">=1,<3").contains("2.0rc1", prereleases=True)
         (False, True)
@@ -338,9 +341,9 @@ class SpecifierSet:
     def filter(
         self, iterable: Iterable[UnparsedVersionVar], prereleases: Optional[bool] = None
     ) -> Iterator[UnparsedVersionVar]:
-        """The versions that all members take, in their order, by one call of the library; pre-releases where `prereleases`,
-        or else `self.prereleases`, says so. Without members pre-releases are given where there is nothing else, unless
-        `prereleases` is False.
+        """The versions that all members accept, in their order, by one call of the library; pre-releases only
+        if `prereleases` is true, or, if that is None, `self.prereleases`. Without members pre-releases are
+        returned if there is nothing else, unless `prereleases` is False.
 
         >>> list(SpecifierSet(">=1.2.3").filter(["1.2", "1.3", "1.5a1"]))
         ['1.3']
@@ -355,8 +358,8 @@ class SpecifierSet:
         return iter(finals or (taken if prereleases is None else []))
 
     def is_disjoint(self, other: "Ranged") -> bool:
-        """Whether this range has no point in common with another one (see this module). As `is_subset` and `is_empty`
-        do, it raises `InvalidSpecifier` for a range whose end would need a number past 64 bits.
+        """Whether this range has no point in common with another one (see this module). As `is_subset` and
+        `is_empty` do, it raises `InvalidSpecifier` for a range whose end would need a number past 64 bits.
 
         >>> SpecifierSet(">=1,<2").is_disjoint("~=2.0"), SpecifierSet(">=1,<=2").is_disjoint("==2.0")
         (True, False)
@@ -364,7 +367,7 @@ class SpecifierSet:
         return _of_ranges(_native.disjoint, self, other)
 
     def is_subset(self, other: "Ranged") -> bool:
-        """Whether each point of this range lies in another one (see this module).
+        """Whether each point of this range is in another one (see this module).
 
         >>> SpecifierSet(">=1.2,<2").is_subset("~=1.2"), SpecifierSet("~=1.2").is_subset(">=1.2,<2")
         (True, False)

@@ -13,14 +13,15 @@ _LONGEST = 256
 
 
 class MarkerInURLWarning(UserWarning):
-    """A requirement's URL has a `;` in it and a marker after that, as in `foo @ https://e.org/x.whl;os_name == 'nt'`. The
-    requirement is read with this URL and without a marker, and so it applies everywhere. To have the marker, write white
-    space before its `;` (PEP 508, Grammar: `url_req`)."""
+    """A requirement's URL has a `;` in it and a marker after that, as in
+    `foo @ https://e.org/x.whl;os_name == 'nt'`. The requirement is read with this URL and without a marker,
+    and so it applies everywhere. To get the marker, write white space before its `;` (PEP 508, Grammar:
+    `url_req`)."""
 
 
 def marker_in(url: str) -> Optional[str]:
-    """The text after the first `;` of a URL, or else after the last one, where the library reads a marker of at most 256
-    characters there.
+    """The text after the first `;` of a URL, or else after the last one, if the library reads a marker of at
+    most 256 characters there; otherwise None.
 
     >>> marker_in("https://e.org/x.whl;os_name == 'nt'"), marker_in("https://e.org/x;v=1")
     ("os_name == 'nt'", None)
@@ -40,8 +41,8 @@ def _is_marker(text: str) -> bool:
 
 
 def warn_of_marker_in(url: str, place: str = "") -> None:
-    """Warns where the URL of a requirement without a marker ends in one. The warning is that of the code that called this
-    package."""
+    """Warns if the URL of a requirement without a marker ends in one. The warning is attributed to the code
+    that called this package."""
     marker = marker_in(url)
     if marker is not None:
         said = f"{place}{url!r} is a URL without a marker after it: write ' ;{marker}', with white space before the ';'"
@@ -49,7 +50,7 @@ def warn_of_marker_in(url: str, place: str = "") -> None:
 
 
 def _calls_within() -> int:
-    """How many of the calls that lead to this function's caller are of this package, with that one."""
+    """The number of stack frames of this package from this function's caller on, including that one."""
     count, frame = 1, sys._getframe(1).f_back
     while frame is not None and str(frame.f_globals.get("__name__", "")).startswith(f"{__package__}."):
         count, frame = count + 1, frame.f_back

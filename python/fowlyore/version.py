@@ -17,7 +17,7 @@ _PARTS = re.compile(
 
 
 class InvalidVersion(Refused):
-    """A text is no version.
+    """A text is not a version.
 
     >>> Version("1.0 final")
     Traceback (most recent call last):
@@ -37,7 +37,7 @@ class Parts(NamedTuple):
 
 
 def parse(version: str) -> "Version":
-    """The version of a text.
+    """The version of a text. Raises `InvalidVersion` if it is not a version.
 
     >>> parse("1.0.dev1")
     <Version('1.0.dev1')>
@@ -48,8 +48,9 @@ def parse(version: str) -> "Version":
 class Version:
     """A version, which is compared by PEP 440, Summary of permitted suffixes and relative ordering.
 
-    Its numbers are below 2^64. Making one is one call of the library, for the bytes by which it is compared and hashed;
-    comparing is none. Its text and its parts are asked for when they are wanted.
+    Its numbers are below 2^64. Making one is one call of the library, for the bytes by which it is compared
+    and hashed; comparing needs no call. Its text and its parts are computed on first use. Raises
+    `InvalidVersion` for a text that is not a version.
 
     >>> Version("1.0a5") < Version("1.0") == Version("1.0.0")
     True
@@ -140,32 +141,32 @@ class Version:
 
     @property
     def epoch(self) -> int:
-        """The number before `!`, and 0 where there is none."""
+        """The number before `!`, or 0 if there is none."""
         return self._parts.epoch
 
     @property
     def release(self) -> Tuple[int, ...]:
-        """The numbers with dots between them, zeros at the end too."""
+        """The numbers with dots between them, including zeros at the end."""
         return self._parts.release
 
     @property
     def pre(self) -> Optional[Tuple[str, int]]:
-        """The pre-release, as `('rc', 1)`."""
+        """The pre-release, as `('rc', 1)`, or None."""
         return self._parts.pre
 
     @property
     def post(self) -> Optional[int]:
-        """The number of the post-release."""
+        """The number of the post-release, or None."""
         return self._parts.post
 
     @property
     def dev(self) -> Optional[int]:
-        """The number of the developmental release."""
+        """The number of the developmental release, or None."""
         return self._parts.dev
 
     @property
     def local(self) -> Optional[str]:
-        """What stands behind `+`."""
+        """The local part, which is the text after `+`, or None."""
         return self._parts.local
 
     @property
@@ -225,7 +226,8 @@ def _bytes_of(version: object) -> bytes:
 
 
 def _long_key(version: str, text: bytes) -> bytes:
-    """The key of a version for which a buffer is too short, or the refusal of what is none."""
+    """The key of a version for which a buffer is too short. Raises `InvalidVersion` for a text that is not a
+    version."""
     key = _native.long_version_key(text)
     if key is not None:
         return key
@@ -253,12 +255,13 @@ def _parts_of(normal: str) -> Parts:
 
 
 def is_prerelease(text: str) -> bool:
-    """Whether the version of this text is a pre-release or a developmental release. Without letters it is none."""
+    """Whether the version of this text is a pre-release or a developmental release; without letters it isn't.
+    """
     return not text.replace(".", "").isdecimal() and Version(text).is_prerelease
 
 
 def text_of(version: object) -> str:
-    """The text of a version or of what is to be one, without blanks around; it has no line feed."""
+    """The text of a version or of what should be one, without blanks around it; it has no line feed."""
     if isinstance(version, Version):
         return version._given.strip(" \t\n\r\f")
     if isinstance(version, str):

@@ -39,7 +39,7 @@ class Documented(unittest.TestCase):
     def test_variables_of_the_environment(self):
         sources = "".join(it.read_text(encoding="utf-8") for it in pathlib.Path(fowlyore.__path__[0]).glob("*.py"))
         found = set(re.findall(r"environ(?:\.get\(|\[)\"(\w+)\"", sources))
-        self.assertEqual(found, {"FOWLYORE_LIBRARY"})
+        self.assertEqual(found, {"FOWLYORE_LIBRARY", "NO_COLOR", "TERM"})
         for it in found:
             self.assertIn(f"`{it}`", PAGE.read_text(encoding="utf-8"))
 

@@ -143,7 +143,9 @@ class Refusals(unittest.TestCase):
         with tempfile.TemporaryDirectory() as folder:
             path = pathlib.Path(folder, "list.txt")
             path.write_text("foo=1\n")
-            self.assertEqual(self.refused(fowlyore.normal, path).path, os.fspath(path))
+            error = self.refused(fowlyore.normal, path)
+            self.assertEqual(error.path, os.fspath(path))
+            self.assertTrue(str(error).startswith(f"{path}: line 1, byte 3, length "), error)
 
     def test_which_input(self):
         self.assertEqual(self.refused(fowlyore.same, "a", "b b").input, "right")

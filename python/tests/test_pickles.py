@@ -7,6 +7,8 @@ import unittest
 import fowlyore
 from fowlyore import InvalidInput, Marker, Refused, Requirement, Specifier, SpecifierSet, Version
 from fowlyore.explanations import explain
+from fowlyore.listings import Entries
+from fowlyore.pip_files import read_pip
 
 
 def error_of(call, *given):
@@ -29,6 +31,17 @@ def changed():
     return requirement
 
 
+def listing(data=b"--pre\nfoo>=1 \\\n,<2\n"):
+    return read_pip("a", data)
+
+
+def constrained():
+    """A list with a constraint."""
+    entries, texts = Entries(), ["foo ; os_name == 'nt'", "foo<2 ; os_name == 'x'"]
+    origins = [entries.add(fowlyore.Place("a", at), text) for at, text in enumerate(texts, 1)]
+    return fowlyore.Listing("a", texts, origins, constraints={1})
+
+
 # How values of each class are made.
 MADE = {
     "Comparison": [lambda: fowlyore.same("a", "a"), lambda: fowlyore.same("a", "a ; os_name == 'nt'")],
@@ -42,6 +55,11 @@ MADE = {
     "MarkerInURLWarning": [lambda: fowlyore.MarkerInURLWarning("why")],
     "Refused": [lambda: Refused("why", text="a=1", line=1, start=1, end=2)],
     "Requirement": [lambda: Requirement("Foo [b , a] >= 1.0 ; os_name == 'nt'"), lambda: Requirement("a @ https://e.org/x"), changed],
+    "Assumption": [lambda: fowlyore.Assumption("requires-python", ">=3.8", fowlyore.Place("a", entry="project.requires-python"))],
+    "LeftOut": [lambda: listing().left_out[0]],
+    "ListedLine": [lambda: listing().lines[0]],
+    "Listing": [listing, lambda: listing(b"a\nb # c\n"), constrained, lambda: constrained().without_constraints()],
+    "Place": [lambda: fowlyore.Place("a"), lambda: fowlyore.Place("a", 3), lambda: fowlyore.Place("a", entry="b[0]")],
     "Row": [lambda: fowlyore.check("a[x]", candidates="a 1")[0]],
     "Specifier": [
         lambda: Specifier(" ~=  1.4-Alpha "), lambda: Specifier("== 1.0.*"), lambda: Specifier(">=1", prereleases=True),
@@ -70,6 +88,9 @@ def parts_of(value):
         parts["members"] = sorted((str(it), it.prereleases) for it in value)
     if isinstance(value, Requirement):
         parts["line"] = value._line()
+    if isinstance(value, fowlyore.Listing):
+        numbers = () if value.is_plain else range(1, len(value.lines) + 1)
+        parts.update(lines=value.lines, places=[value.located(it, 1, 9) for it in numbers])
     return parts
 
 
