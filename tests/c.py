@@ -8,7 +8,7 @@ tests/c/forks.c, REFUSE is tests/refuse.c as a shared library, LIBRARIES is the 
 answer is of elsewhere: the examples and the stored runs of the command, whose answers are the calls', and rows of PEP 440
 and PEP 508. Each call is made with ample room; one of each kind with room of each smaller size, and with each of its
 requests for memory refused in turn. The program of docs/C.md is compiled by the commands there, and has to print what
-stands there. The last line is `c: N passed, M failed`.
+stands there. The odd inputs of fuzz.py are asked once. The last line is `c: N passed, M failed`.
 """
 
 import json
@@ -20,9 +20,10 @@ import sys
 import tempfile
 from concurrent.futures import ThreadPoolExecutor
 
+import fuzz
+from calls import request
+
 TOP = os.path.dirname(os.path.dirname(os.path.abspath(__file__)))
-CALLS = ("check", "matrix", "same", "conflicts", "normal", "version", "key", "order", "specifiers", "take", "ranges disjoint", "subset",
-         "empty", "requirement", "marker", "marker key", "truth", "disjoint", "implies", "negated", "python", "extras", "hold", "abi")
 INTERFACE = 2
 ROOM = 1 << 20
 LIMIT = 4096
@@ -74,11 +75,7 @@ class Reply:
 
 def made(program, calls):
     """What a program replies to calls, each a name, its texts, and where they aren't the usual ones a limit and a room."""
-    asked = []
-    for name, texts, *more in calls:
-        limit, room = more or (LIMIT, ROOM)
-        asked.append(struct.pack("<4Q", CALLS.index(name), limit, room, len(texts)))
-        asked.append(struct.pack(f"<{len(texts)}Q", *map(len, texts)) + b"".join(texts))
+    asked = [request(name, texts, *(more or (LIMIT, ROOM))) for name, texts, *more in calls]
     ran = subprocess.run([program], input=b"".join(asked), capture_output=True, env=AT_ONCE)
     if ran.returncode:
         raise SystemExit(f"FAILED: {os.path.basename(program)} ended with status {ran.returncode}\nc: {passed} passed, 1 failed")
@@ -421,9 +418,7 @@ def refusals(program, refuse):
     def refused(call, first, last):
         told, tells = os.pipe()
         environment = {**AT_ONCE, "LD_PRELOAD": refuse, "REFUSE_FIRST": str(first), "REFUSE_LAST": str(last), "REFUSE_TOLD": str(tells)}
-        asked = struct.pack("<4Q", CALLS.index(call[0]), LIMIT, 4096, len(call[1]))
-        asked += struct.pack(f"<{len(call[1])}Q", *map(len, call[1])) + b"".join(call[1])
-        ran = subprocess.run([program], input=asked, capture_output=True, env=environment, pass_fds=[tells])
+        ran = subprocess.run([program], input=request(*call, LIMIT, 4096), capture_output=True, env=environment, pass_fds=[tells])
         os.close(tells)
         with os.fdopen(told, "rb") as pipe:
             was = pipe.read()
@@ -528,6 +523,7 @@ def main(words):
     ran = subprocess.run([deep, *DEEP], capture_output=True, text=True)
     wants("deep texts and many threads", ran.returncode == 0, f"status {ran.returncode} {ran.stdout}")
     forks(forking)
+    wants("each odd input of tests/c/corpus.jsonl", *fuzz.ran(os.path.join(libraries, "libreqs.a"), seconds=0))
     print(f"c: {passed} passed, {len(failed)} failed")
     return 1 if failed else 0
 

@@ -365,7 +365,7 @@ if command -v python3 >/dev/null; then
         failed=$((failed + 1))
         echo "FAILED: what is installed: $(wc -l <rows) rows of $(wc -l <asked), and $(grep -c ' none$' rows) none"
     fi
-    for name in installed plain_list candidates environments; do
+    for name in installed candidates environments; do
         script $name.py --help
         wants "examples/$name.py --help" 0 SOMETHING ""
         script $name.py --frobnicate
@@ -385,32 +385,6 @@ if command -v python3 >/dev/null; then
     mkdir -p taken/environment.json
     script installed.py taken
     wants "installed.py: a file that can't be written" 2 "" "installed.py: taken/environment.json: Is a directory$n"
-
-    cp -r "$top/tests/lists" .
-    script plain_list.py lists/pip.txt
-    wants "plain_list.py" 0 "$(cat lists/plain.txt)$n" "$(cat lists/left_out.txt)$n"
-    script plain_list.py - <<<"foo >=1 \\$n, <2 --hash=sha256:ab"
-    wants "plain_list.py: standard input" 0 "foo >=1 , <2$n" "plain_list.py: -: line 1: left out: --hash$n"
-    cp lists/plain.txt plain
-    run check plain E C
-    wants "a plain list of a list of pip" 0 "$(cat lists/rows.txt)$n" ""
-    script plain_list.py absent
-    wants "plain_list.py: a file that isn't there" 2 "" "plain_list.py: absent: No such file or directory$n"
-    script plain_list.py installed
-    wants "plain_list.py: a folder" 2 "" "plain_list.py: installed: Is a directory$n"
-    printf 'foo\n-r absent\n' >names
-    script plain_list.py names
-    wants "plain_list.py: -r of a file that isn't there" 2 "" "plain_list.py: names: line 2: absent: No such file or directory$n"
-    printf 'foo\n-r "absent\n' >names
-    script plain_list.py names
-    wants "plain_list.py: an open quotation" 2 "" "plain_list.py: names: line 2: No closing quotation$n"
-    printf 'foo\xff\n' >names
-    script plain_list.py names
-    wants "plain_list.py: a list that isn't UTF-8" 2 "" "plain_list.py: names: not UTF-8 at byte 3$n"
-    : >out
-    python3 "$top/examples/plain_list.py" asked >/dev/full 2>err
-    status=$?
-    wants "plain_list.py: a full standard output" 2 "" "plain_list.py: standard output: No space left on device$n"
 
     script environments.py
     wants "environments.py" 0 "$(cat "$top/examples/matrix/environments.json")$n" ""
@@ -758,7 +732,8 @@ wants "a limit of no cases, for conflicts" 2 "" "reqs: R: more than 0 cases for 
 run check --frobnicate R E C
 wants "an unknown option" 2 "" SOMETHING
 
-# The stored runs, the same runs asked for objects, the command lines of the documents, and inputs of each size.
+# The stored runs, the same runs asked for objects, the command lines of the documents, inputs of each size, numbers at
+# their end, and readers and writers that fail.
 stored() {
     python3 "$top/tests/$1.py" "$program" >runs.out
     grep -v "^$1: " runs.out
@@ -779,6 +754,8 @@ if command -v python3 >/dev/null; then
     stored objects
     stored documented
     stored sizes
+    stored numerals
+    stored ends
 else
     failed=$((failed + 1))
     echo "FAILED: python3 is not on the PATH, and the stored runs need it"

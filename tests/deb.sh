@@ -20,7 +20,7 @@ files=(
     usr/libexec/reqs/reqs
     usr/share/bash-completion/completions/reqs
     usr/share/doc/reqs/C.md
-    usr/share/doc/reqs/LISTS.md
+    usr/share/doc/reqs/COMMANDS.md
     usr/share/doc/reqs/copyright
     usr/share/fish/vendor_completions.d/reqs.fish
     usr/share/man/man1/reqs.1.gz

@@ -11,9 +11,9 @@ for itself. Where an input is refused and its text can't be made, the text of wa
 the refusal. The last run gives the answer with ample memory.
 
 The commands are `reqs check` on each example and on lists that are refused, `reqs matrix`, `reqs same`, `reqs conflicts`
-and `reqs normal`, each of these asked for an object too, the program's help, and the questions of crates/pep440_vectors and
-crates/pep508_vectors and every eighth of crates/pep508_marker_vectors, one a run; each stands with the answer that it has
-with ample memory. To questions of KEPT the program goes on: it makes a call that was refused memory again, and answers by it
+and `reqs normal`, each of these asked for an object too, those of rows.py, the program's help, and the questions of
+crates/pep440_vectors and crates/pep508_vectors and every eighth of crates/pep508_marker_vectors, one a run; each stands with
+the answer that it has with ample memory. To questions of KEPT the program goes on: it makes a call that was refused memory again, and answers by it
 and by the trees that it made before. There some run has to give the whole answer after a refusal. tests/least.txt says how
 many commands and questions there are at least. The last line is `refused: N passed, M failed`, a command or a kind of
 question each.
@@ -28,6 +28,7 @@ import sys
 import tempfile
 
 import objects
+from rows import FORMATS, ROWS
 
 TOP = os.path.dirname(os.path.dirname(os.path.abspath(__file__)))
 REQS = os.path.join(TOP, "crates", "reqs_cli", "out", "reqs_cli")
@@ -172,6 +173,7 @@ def commands(room):
     yield "no list of environments:", ["matrix", *files], room, (2, b"", b"reqs: environment.json: not a list\n")
     yield from commands_on_lists(room)
     yield from commands_for_objects(room, files)
+    yield from commands_of_rows(room)
     yield "a line that is no requirement:", ["check", "unread", *files[1:]], room, (2, b"", UNREAD)
     yield "a candidate's name:", ["check", *files[:2], "name"], room, (2, b"", b"reqs: name: line 2: name\n")
     yield "a candidate's version:", ["check", *files[:2], "version"], room, (2, b"", b"reqs: version: line 2: version\n")
@@ -233,6 +235,18 @@ def commands_for_objects(room, files):
     yield "an object of no file:", ["normal", "absent", *asked], room, (3, b"", fault_line(b"reqs: absent: read fault\n"))
     twice = fault_line(b"reqs: standard input (-) can be one input alone\n")
     yield "an object of standard input:", ["same", "-", "-", *asked], room, (2, b"", twice)
+
+
+def commands_of_rows(room):
+    """A run of each command, for a text and for an object, in the same form."""
+    for row in ROWS:
+        folder = os.path.join(room, row.command)
+        os.makedirs(folder)
+        for path, text in row.inputs.items():
+            with open(os.path.join(folder, path), "wb") as file:
+                file.write(text)
+        for form in FORMATS:
+            yield f"{row.command}, {form}:", row.words(form), folder, (row.status, row.answers[form], b"")
 
 
 def tasks(library, room):

@@ -1,0 +1,74 @@
+/* The library's calls by number, and how each is made with texts, a limit and room for its answer. */
+
+#include "reqs.h"
+
+enum {
+    CHECK, MATRIX, SAME, CONFLICTS, NORMAL, VERSION, KEY, ORDER, SPECIFIERS, TAKE, RANGES_DISJOINT, SUBSET, EMPTY,
+    REQUIREMENT, MARKER, MARKER_KEY, TRUTH, DISJOINT, IMPLIES, NEGATED, PYTHON, EXTRAS, HOLD, ABI,
+    CALLS
+};
+
+static reqs_reply number(int64_t value) {
+    reqs_reply reply = {0, 0, (size_t)value, 0, 0, 0};
+    return reply;
+}
+
+#define T(n) text[n], (size_t)size[n]
+
+/* Makes a call. Of a call that gives a number that is the length; no other number is a call. */
+static reqs_reply made(uint64_t which, const uint8_t *const *text, const uint64_t *size, uint64_t limit, uint8_t *out, size_t room) {
+    switch (which) {
+    case CHECK:
+        return reqs_check(T(0), T(1), T(2), T(3), out, room);
+    case MATRIX:
+        return reqs_matrix(T(0), T(1), T(2), T(3), limit, out, room);
+    case SAME:
+        return reqs_same(T(0), T(1), limit, out, room);
+    case CONFLICTS:
+        return reqs_conflicts(T(0), limit, out, room);
+    case NORMAL:
+        return reqs_normal(T(0), out, room);
+    case VERSION:
+        return reqs_version(T(0), out, room);
+    case KEY:
+        return number(reqs_version_key(T(0), out, room));
+    case ORDER:
+        return number(reqs_version_order(T(0), T(1)));
+    case SPECIFIERS:
+        return reqs_specifiers(T(0), out, room);
+    case TAKE:
+        return reqs_specifiers_take(T(0), T(1), out, room);
+    case RANGES_DISJOINT:
+        return reqs_specifiers_disjoint(T(0), T(1), out, room);
+    case SUBSET:
+        return reqs_specifiers_subset(T(0), T(1), out, room);
+    case EMPTY:
+        return reqs_specifiers_empty(T(0), out, room);
+    case REQUIREMENT:
+        return reqs_requirement(T(0), out, room);
+    case MARKER:
+        return reqs_marker(T(0), out, room);
+    case MARKER_KEY:
+        return reqs_marker_key(T(0), out, room);
+    case TRUTH:
+        return reqs_marker_truth(T(0), out, room);
+    case DISJOINT:
+        return reqs_markers_disjoint(T(0), T(1), out, room);
+    case IMPLIES:
+        return reqs_marker_implies(T(0), T(1), out, room);
+    case NEGATED:
+        return reqs_marker_negated(T(0), out, room);
+    case PYTHON:
+        return reqs_marker_simplify_python(T(0), T(1), T(2), out, room);
+    case EXTRAS:
+        return reqs_marker_simplify_extras(T(0), T(1), out, room);
+    case HOLD:
+        return reqs_markers_hold(T(0), T(1), T(2), out, room);
+    case ABI:
+        return number(reqs_abi());
+    default:
+        return number(-1);
+    }
+}
+
+#undef T
