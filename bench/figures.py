@@ -28,7 +28,7 @@ import time
 TOP = os.path.dirname(os.path.dirname(os.path.abspath(__file__)))
 FILE = os.path.join(TOP, "bench", "figures.json")
 DOCUMENTS = ("README.md", "docs/*.md", "examples/README.md", "rust/fowlyore/README.md")
-LEFT_OUT = {f"docs/{it}.md" for it in ("DECISIONS", "GATE", "GATE_IN_DETAIL", "PROOF_COSTS", "VECTORS")}
+LEFT_OUT = {f"docs/{it}.md" for it in ("DECISIONS", "FILES", "GATE", "VECTORS")}
 UNITS = ("µs", "ms", "s", "minutes", "KiB", "MiB", "MB", "times")
 FIELDS = ["value", "unit", "of", "command", "date", "cores", "clock"]
 COUNTS = ("no", "one", "two", "three", "four", "five", "six", "seven", "eight")

@@ -50,10 +50,11 @@ OF_TEXTS, OF_PROOFS = "texts", "proofs"
 PROVE, WRONG, HELD, NAMES = ["gate/prove.py"], ["gate/wrong.py"], ["gate/held.py"], ["gate/names.py"]
 LENT, CONSTANTS, FITS = ["gate/lent.py"], ["gate/constants.py"], [*WRONG, "--texts"]
 MUTANTS, FIGURES = ["gate/mutants.py", "--listed"], ["bench/figures.py", "--check"]
+FILES = ["tools/files.py", "--check"]
 PACK = [*PROVE, "--program", "reqs_c"]
 DOCUMENTED = ["tests/documented.py", os.path.join(TOP, "crates", "reqs_cli", "out", "reqs_cli")]
 # The parts that prove nothing, and leave nothing in the tree.
-TEXTS = (HELD, MUTANTS, NAMES, LENT, CONSTANTS, FITS, FIGURES, DOCUMENTED)
+TEXTS = (HELD, MUTANTS, NAMES, LENT, CONSTANTS, FITS, FIGURES, FILES, DOCUMENTED)
 PYTHON_TESTS = "python/tests/test_specifiers.py"
 SPECIFIERS = "crates/reqs_versions/specs/Specifiers.antt"
 UNNOTICED = "reqs_versions.Specifiers.AreTaken: drop field is_list ="
@@ -114,7 +115,7 @@ FAULTS = [
     Fault("a limit in README.md that the code doesn't have", None, FIGURES, "bench/figures.json",
           "An input has 16,777,216 bytes", "An input has 16,777,217 bytes"),
     Fault("another first answer in README.md", None, DOCUMENTED, "README.md", "    numpy none\n", "    numpy 2.0\n"),
-    Fault("another answer in a document", None, DOCUMENTED, "docs/LISTS.md", "    numpy 2,7\n", "    numpy 2\n"),
+    Fault("another answer in a document", None, DOCUMENTED, "docs/COMMANDS.md", "    numpy 2,7\n", "    numpy 2\n"),
     Fault("a test that is none", None, NAMES, "crates/pep508_url_tests/src/urls.rt",
           "#[test]\nfn keeps_variables(", "fn keeps_variables("),
     Fault("a file of tests that is deleted", None, NAMES, PYTHON_TESTS, "", None),
@@ -127,6 +128,7 @@ FAULTS = [
           "let copy = copied_packages(alloc, &requirements, &[])?; let mut table = table_of(alloc, copy, interner, limit)?;"),
     Fault("a table that keeps its lines twice", None, LENT, "crates/reqtable_table/src/table.rt",
           "pub(crate) lines: Vec<TableLine>,", "pub(crate) lines: Vec<TableLine>, pub(crate) given: Vec<Given>,"),
+    Fault("a list of files that lacks one", None, FILES, "docs/FILES.md", "- `gate/floors.py`: ", "- `gate/floor.py`: "),
     Fault("a library for C that isn't packed", "reqs_c", PACK, "tools/pack.sh", "set -eu\n", "exit 1\n"),
     Fault("no edits", None, FITS, "tests/wrong/gate.txt", "", ""),
 ]

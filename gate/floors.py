@@ -1,8 +1,8 @@
 """Least counts, under which the questions, the stored runs and the commands with memory refused may not fall.
 
 tests/least.txt has them; whoever adds some raises its count. A program of questions without one fails. So does
-a question whose answer is `no question`, a kind of question that docs/VECTORS.md doesn't tell of under its
-program, and a kind there that the program isn't asked.
+a question whose answer is `no question`, a kind of question that the head of the program's `main.rt` doesn't list,
+and a kind there that the program isn't asked.
 """
 
 import json
@@ -15,6 +15,8 @@ from crates import TOP
 
 sys.path.insert(0, os.path.join(TOP, "tests"))
 import documented
+import ends
+import numerals
 import objects
 import refused
 import sizes
@@ -24,16 +26,11 @@ def read(*path):
         return file.read()
 
 
-def kinds_told(text):
-    """The kinds of questions in the tables of docs/VECTORS.md, by the program that its part names first."""
-    found = {}
-    for part in re.split(r"^## |^# ", text, flags=re.M):
-        program = re.search(r"`crates/(\w+)`", part)
-        if program:
-            lines = [it for it in part.splitlines() if it.startswith("| `[")]
-            rows = "".join(it.partition(" | ")[0] for it in lines)
-            found.setdefault(program[1], set()).update(re.findall(r'`\["([^"]+)"', rows))
-    return found
+def kinds_told(program):
+    """The kinds of questions that the head of a program lists: what stands before the colon of each item."""
+    head = re.match(r"(?:#!.*\n)*((?://!.*\n)+)", read("crates", program, "src", "main.rt"))[1].replace("\n//!   ", " ")
+    items = re.split(r"^//! - ", head, flags=re.M)[1:]
+    return {kind for it in items for kind in re.findall(r'`\["([^"]+)"', it.partition("]`: ")[0])}
 
 
 def faults_of(name, told):
@@ -43,9 +40,9 @@ def faults_of(name, told):
         if answer.rstrip() == question + b" no question":
             yield f"{name} doesn't know the question {question.decode()}"
     for kind in sorted(asked - told):
-        yield f"docs/VECTORS.md doesn't tell of the questions `{kind}` of {name}"
+        yield f"crates/{name}/src/main.rt doesn't list the questions `{kind}`"
     for kind in sorted(told - asked):
-        yield f"docs/VECTORS.md tells of questions `{kind}` that {name} isn't asked"
+        yield f"crates/{name}/src/main.rt lists questions `{kind}` that {name} isn't asked"
 
 
 def counts(programs):
@@ -57,6 +54,8 @@ def counts(programs):
     yield "objects", objects.count()
     yield "documented", documented.count()
     yield "sizes", sizes.count()
+    yield "ends", ends.count()
+    yield "numerals", numerals.count()
     with tempfile.TemporaryDirectory(prefix="floors-") as room:
         yield "commands", len(list(refused.commands(room)))
 
@@ -76,7 +75,6 @@ def judged(crates):
     vectors = os.path.join("data", "vectors.jsonl")
     programs = [it for it in crates if os.path.isfile(os.path.join(crates[it].folder, vectors))]
     passed, faults, least = 0, [], least_counts()
-    told = kinds_told(read("docs", "VECTORS.md"))
     for name, count in counts(programs):
         wanted = least.pop(name, None)
         if wanted is None:
@@ -86,7 +84,7 @@ def judged(crates):
         else:
             passed += 1
     for name in programs:
-        found = list(faults_of(name, told.get(name, set())))
+        found = list(faults_of(name, kinds_told(name)))
         faults += found
         passed += not found
     return passed, faults + [f"tests/least.txt: nothing is counted as `{name}`" for name in least]

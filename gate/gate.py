@@ -38,9 +38,10 @@ NOTHING, RELEASE = "--from-nothing", "--release"
 SCRIPTS = {"--wrong": (["wrong.py"], ["mutants.py", "--again"]), "--mutants": (["mutants.py"],), "--faults": (["faults.py"],)}
 QUESTIONS = ("pep440_vectors", "pep508_vectors", "pep508_marker_vectors")
 # What of tests/ the parts read that run programs.
-OF_REQS = ("alike.py", "cli.sh", "documented.py", "drawn.py", "help.txt", "install.sh", "lists", "objects.py", "pages", "pairs.py",
-           "refuse.c", "refused.py", "refused.sh", "runs.json", "runs.py", "sizes.py", "try.sh")
-OF_C = ("c", "c.py", "c.sh", "refuse.c", "runs.json")
+OF_REQS = ("alike.py", "cli.sh", "documented.py", "drawn.py", "ends.c", "ends.py", "help.txt", "install.sh", "lists", "numerals.py",
+           "objects.py", "pages", "pairs.py", "refuse.c", "refused.py", "refused.sh", "rows.py", "runs.json", "runs.py", "sizes.py",
+           "try.sh")
+OF_C = ("c", "c.py", "c.sh", "calls.py", "fuzz.py", "refuse.c", "runs.json")
 
 
 class Part:
@@ -67,8 +68,8 @@ def parts(more):
     of_c = ("build", "docs/C.md", "gate/prove.py", "include", "tools")
     licences = ("LICENSE-APACHE", "LICENSE-BSD")
     of_pack = (*licences, "build", "examples", "gate/prove.py", "include", "pack", "tools")
-    of_python = (*of_pack, "README.md", "docs/PYTHON.md", "pyproject.toml", "python", "tests/python.sh")
-    of_deb = (*of_pack, "docs/C.md", "docs/LISTS.md", "install", "rust/fowlyore/README.md", "share", "tests/deb.sh")
+    of_python = (*of_pack, "README.md", "docs/PYTHON.md", "pyproject.toml", "python", "tests/python.sh", "tests/refuse.c")
+    of_deb = (*of_pack, "docs/C.md", "docs/COMMANDS.md", "install", "rust/fowlyore/README.md", "share", "tests/deb.sh")
     of_index = ("bench/workload.py", "build", "gate/prove.py", "examples/index", "python", "tests/index.py", "tools")
     asked = [f"crates/{it}/{of}" for it in QUESTIONS for of in ("data", "stdout")]
     return [
@@ -81,6 +82,8 @@ def parts(more):
         Part("figures", [*python, "bench/figures.py", "--check"]),
         Part("tests by name", [*python, "gate/names.py"]),
         Part("lent calls", [*python, "gate/lent.py"]),
+        Part("list of files", [*python, "tools/files.py", "--check"]),
+        Part("calls without memory", [*python, "gate/no_memory.py"]),
     ], Part("proofs and wrong edits", [*python, "gate/together.py", *more], closings=2), [
         Part("command line", ["bash", "tests/cli.sh"], ["reqs_cli"], [*of_reqs, "README.md", "docs"]),
         Part("answers compared", [*python, "tests/alike.py", "1000"], ["reqs_cli"], of_reqs),

@@ -1,4 +1,5 @@
-//! Links the proved library. `REQS_LIB_DIR` names the folder of `libreqs.a`; it is the repository's own where it isn't set.
+//! Links the proved library. `REQS_LIB_DIR` names the folder of `libreqs.a`; the default is the repository's
+//! own.
 
 use std::env;
 use std::path::PathBuf;
@@ -18,7 +19,7 @@ fn main() {
     println!("cargo:rustc-link-lib=static=reqs");
 }
 
-/// Where `./build reqs_c` puts the library.
+/// The folder in which `./build reqs_c` puts the library.
 fn built_here() -> PathBuf {
     PathBuf::from(env!("CARGO_MANIFEST_DIR")).join("../../crates/reqs_c/out")
 }

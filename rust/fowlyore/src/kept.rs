@@ -1,20 +1,21 @@
-//! Bytes that are made once, when they are first wanted.
+//! Bytes that are made once, on first use.
 
 use std::ptr;
 use std::sync::atomic::{AtomicPtr, Ordering};
 
-/// A place for bytes that are made once and then stay. It has no lock, so that the child of a `fork` can't find it locked by a
-/// thread that it doesn't have.
+/// A cell for bytes that are made once and then stay. It has no lock, so the child of a `fork` can't find it
+/// locked by a thread that the child doesn't have.
 #[derive(Default)]
 pub(crate) struct Kept(AtomicPtr<Box<[u8]>>);
 
 impl Kept {
     fn get(&self) -> Option<&[u8]> {
-        // SAFETY: it is null, or what `Box::into_raw` gave, which is as it was until `self` is dropped.
+        // SAFETY: it is null, or what `Box::into_raw` returned, which doesn't change until `self` is dropped.
         unsafe { self.0.load(Ordering::Acquire).as_ref() }.map(|it| &**it)
     }
 
-    /// The bytes. Where there are none yet they are made now; where several threads make them at once, the first are kept.
+    /// The bytes, which are made on the first call. If several threads make them at once, the first to finish
+    /// are kept.
     pub fn get_or_make(&self, make: impl FnOnce() -> Vec<u8>) -> &[u8] {
         if let Some(bytes) = self.get() {
             return bytes;
@@ -45,7 +46,7 @@ impl Drop for Kept {
     fn drop(&mut self) {
         let bytes = *self.0.get_mut();
         if !bytes.is_null() {
-            // SAFETY: `Box::into_raw` gave it, and nothing borrows from `self` any more.
+            // SAFETY: `Box::into_raw` returned it, and nothing borrows from `self` any more.
             drop(unsafe { Box::from_raw(bytes) });
         }
     }

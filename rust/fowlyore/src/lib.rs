@@ -1,11 +1,13 @@
-//! Python's versions and specifiers (PEP 440), requirements and markers (PEP 508), and lists of requirements, by a C library whose
-//! answers are proved.
+//! Python's versions and specifiers (PEP 440), requirements and markers (PEP 508), and lists of requirements,
+//! by a C library whose answers are proved.
 //!
-//! Texts are handed to the library as they are, and it keeps nothing of them. Where memory runs out the process ends, as with Rust's
-//! own collections. This crate itself is not proved: it calls, and splits what it is answered.
+//! Texts are passed to the library as they are, and it keeps none of them. When memory runs out the process
+//! ends, as with Rust's own collections. This crate itself is not proved: it calls the library and splits its
+//! replies.
 //!
-//! A value means what was written. A marker is evaluated, compared and joined by its given text, and a requirement's is what stands in the
-//! requirement's text; prints are made for whoever prints, and each is read again as an equal value:
+//! A value means what was written. A marker is evaluated, compared and joined by its given text, and a
+//! requirement's marker is what is written in the requirement. Printing makes normal texts, and each print is
+//! read again as an equal value:
 //!
 //! ```
 //! use fowlyore::Requirement;
@@ -16,8 +18,9 @@
 //! # Ok::<(), fowlyore::Refused>(())
 //! ```
 //!
-//! Calls share nothing, and neither they nor values have a lock. So values may go to other threads and be used by several at once, and
-//! calls may be made in the child of a `fork` by glibc too, of a process with threads as well, where its `malloc` is the one in use.
+//! Calls share nothing, and neither they nor values have a lock. So values can be moved to other threads and
+//! used by several at once. Calls can also be made in the child of a `fork`, even of a process with threads,
+//! with glibc's `fork` and its own `malloc`.
 //!
 //! ```
 //! fn is_shared<Value: Send + Sync + 'static>() {}
@@ -46,7 +49,7 @@ pub use requirement::Requirement;
 pub use specifiers::VersionSpecifiers;
 pub use version::Version;
 
-/// The number of the linked library's interface, which is 2.
+/// The version number of the linked library's interface, which is 2.
 ///
 /// ```
 /// assert_eq!(fowlyore::abi(), 2);
@@ -57,8 +60,8 @@ pub fn abi() -> u32 {
     native::abi()
 }
 
-/// Whether the linked library has the interface that this crate is written for. What calls of another library answer or refuse
-/// may be read wrongly.
+/// Whether the linked library has the interface that this crate is written for. The replies of another
+/// library may be misread.
 #[must_use]
 pub fn is_known() -> bool {
     native::is_known()

@@ -2,16 +2,16 @@
 
 use crate::{native, Refused};
 
-/// How many cases a package may have, where no other limit is named.
+/// The default limit on the cases of a package.
 pub const LIMIT: u64 = 4096;
 
-/// What two lists require.
+/// Whether two lists require the same.
 #[derive(Clone, Debug, PartialEq, Eq, Hash)]
 pub enum Same {
-    /// The same of every package, whatever the markers come to.
+    /// They require the same of every package, whatever the truth of their markers is.
     Yes,
-    /// Different things: the first package by name that differs, and a marker that holds just where the first difference is,
-    /// or `all environments`.
+    /// They require different things: the first package by name that differs, and a marker that holds exactly
+    /// where its first difference is, or `all environments`.
     No {
         /// The package's name.
         package: String,
@@ -20,8 +20,8 @@ pub enum Same {
     },
 }
 
-/// What `reqs check` prints: for each package that a line which applies asks for, its extras and the greatest candidate. An extra
-/// that is no name is refused.
+/// What `reqs check` prints: for each package that an applicable line requires, its extras and the highest
+/// candidate that all these lines accept.
 ///
 /// ```
 /// let environment = br#"{"implementation_name": "cpython", "implementation_version": "3.11.7", "os_name": "posix",
@@ -33,6 +33,10 @@ pub enum Same {
 /// assert!(fowlyore::check(b"foo\n", environment, b"foo 1.0\n", &["dev\ntest"]).is_err());
 /// # Ok::<(), fowlyore::Refused>(())
 /// ```
+///
+/// # Errors
+///
+/// `Refused` for an extra that is not a name, and for an invalid text.
 pub fn check(
     requirements: &[u8],
     environment: &[u8],
@@ -42,7 +46,8 @@ pub fn check(
     native::check([requirements, environment, candidates], extras)
 }
 
-/// What `reqs matrix` prints: the same for each environment of a JSON list, from one table, whose packages have at most `limit` cases.
+/// What `reqs matrix` prints: for each environment of a JSON list its number, and then what `reqs check`
+/// prints for it. The answers are read off one table, in which no package may have more cases than `limit`.
 ///
 /// ```
 /// use fowlyore::{matrix, LIMIT};
@@ -64,6 +69,11 @@ pub fn check(
 /// assert_eq!(refused.message, "requirements: more than 1 cases for bar");
 /// # Ok::<(), fowlyore::Refused>(())
 /// ```
+///
+/// # Errors
+///
+/// `Refused` for an extra that is not a name, for an invalid text, and for the first package by name with too
+/// many cases.
 pub fn matrix(
     requirements: &[u8],
     environments: &[u8],
@@ -74,7 +84,10 @@ pub fn matrix(
     native::matrix([requirements, environments, candidates], extras, limit)
 }
 
-/// Whether two lists require the same.
+/// Whether two lists require the same of each package: whether it is required, its extras, its version range,
+/// and whether a specifier names a pre-release. Ranges decide only plain versions, those without a local part
+/// that are no post-releases. So of two lists that require the same, [`check`] can still select different
+/// builds: as of `torch==2.0+cu118` with `torch<=2.0`, and `torch==2.0+cu121` with `torch<=2.0`.
 ///
 /// ```
 /// use fowlyore::{same, Same, LIMIT};
@@ -84,6 +97,11 @@ pub fn matrix(
 /// assert_eq!(same(b"foo\n", b"foo\nbar ; sys_platform == 'win32'\n", LIMIT)?, no);
 /// # Ok::<(), fowlyore::Refused>(())
 /// ```
+///
+/// # Errors
+///
+/// `Refused` for an invalid list, then for the first line that can't be compared, and then for the first
+/// package by name with more cases than `limit`, of the left list first.
 pub fn same(left: &[u8], right: &[u8], limit: u64) -> Result<Same, Refused> {
     let answer = native::same(left, right, limit)?;
     if !answer.is_different {
@@ -96,22 +114,32 @@ pub fn same(left: &[u8], right: &[u8], limit: u64) -> Result<Same, Refused> {
     Ok(Same::No { package, marker })
 }
 
-/// What `reqs conflicts` prints: each case of a package whose lines have no version in common.
+/// What `reqs conflicts` prints: a line for each case of a package whose lines contradict each other. No
+/// plain version, one without a local part that is no post-release, is accepted by all of them. Other
+/// versions may be: `torch==2.0+cu118` and `torch<=2.0` are printed, and both accept 2.0+cu118.
 ///
 /// ```
 /// assert_eq!(fowlyore::conflicts(b"foo>=2\nfoo<1\n", fowlyore::LIMIT)?, "foo 1,2\n");
 /// # Ok::<(), fowlyore::Refused>(())
 /// ```
+///
+/// # Errors
+///
+/// `Refused` for an invalid list, and then for the first package by name with more cases than `limit`.
 pub fn conflicts(requirements: &[u8], limit: u64) -> Result<String, Refused> {
     native::conflicts(requirements, limit)
 }
 
-/// The list in its normal form.
+/// The list in its normal form, without the lines that never apply.
 ///
 /// ```
 /// assert_eq!(fowlyore::normal(b"Foo_Bar [b , a] < 2.0 , >= 1.16\n")?, "foo-bar[b,a]>=1.16,<2.0\n");
 /// # Ok::<(), fowlyore::Refused>(())
 /// ```
+///
+/// # Errors
+///
+/// `Refused` for an invalid list, and then for the first line that has no normal form.
 pub fn normal(requirements: &[u8]) -> Result<String, Refused> {
     native::normal(requirements)
 }

@@ -9,32 +9,33 @@ use std::hash::{Hash, Hasher};
 use std::str::FromStr;
 use std::sync::atomic::{AtomicU8, Ordering as MemoryOrdering};
 
-/// A text that always holds, in place of the one that the marker without a text doesn't have.
+/// A text that always holds, for the marker that has no text.
 const ALWAYS: &str = "python_version >= '3' or python_version < '3'";
-/// A text that never holds, which therefore has no normal text.
+/// A text that never holds, for the marker that has no normal text.
 const NEVER: &str = "python_version >= '3' and python_version < '3'";
-/// How deep the brackets of a marker may nest.
+/// The greatest depth of a marker's brackets.
 const MOST_BRACKETS: usize = 256;
-/// When a marker holds, as the library writes it; none of these where it holds at times.
+/// The library's byte for a marker that always or never holds; one that sometimes holds has neither.
 const ALWAYS_HOLDS: u8 = b'1';
 const NEVER_HOLDS: u8 = b'0';
-/// In their place where the library was not asked yet.
+/// The byte while the library was not called yet.
 const UNKNOWN: u8 = 0;
 /// Why a call about a marker's text isn't refused.
 const IS_MARKER: &str = "the text of a marker is read";
 
 /// A marker of one line. `Default` is the one that always holds, and has no text.
 ///
-/// What is said of markers is said of conditions: a value of each variable, an answer to each question whether a text stands in one, as
-/// `'x' in os_name` asks, and any extras, of which none says anything of another. A variable by its old name, as `os.name`, is another
-/// one, while `python_version` is read off `python_full_version`. So there are conditions that no environment meets: under some of
-/// them `os_name == 'nt' and 'x' in os_name` holds.
+/// What is stated of markers is stated of conditions: a value of each variable, an answer to each question
+/// whether a string contains a text, as `'x' in os_name`, and any extras, all of which are independent of
+/// each other. A variable with a deprecated name, as `os.name`, is independent of the one with its new name,
+/// while `python_version` is derived from `python_full_version`. So some conditions are met by no
+/// environment: under some of them `os_name == 'nt' and 'x' in os_name` holds.
 ///
-/// Markers are equal exactly where they hold under the same conditions, whatever was written. Their order agrees with that, and means
-/// nothing more.
+/// Markers are equal exactly if they hold under the same conditions, however they are written. Their order
+/// agrees with that, and means nothing more.
 ///
-/// Reading a marker makes no print and no key. Comparing and hashing go by the [`key`](MarkerTree::key), which is asked for when
-/// it is first needed, and kept; markers of one text, or that always or never hold, need none.
+/// Reading a marker makes no print and no key. Comparing and hashing use the [`key`](MarkerTree::key), which
+/// is made on first use and kept; markers with the same text, or that always or never hold, need none.
 ///
 /// ```
 /// use fowlyore::MarkerTree;
@@ -49,11 +50,11 @@ const IS_MARKER: &str = "the text of a marker is read";
 /// ```
 #[derive(Default)]
 pub struct MarkerTree {
-    /// Empty where the marker always holds because nothing was written.
+    /// Empty if the marker always holds because nothing was written.
     text: Box<str>,
-    /// By what the text was joined here; none where it was given.
+    /// The connective with which the text was joined here; `None` if it was given.
     joined: Option<Connective>,
-    /// The brackets of the text nest no deeper.
+    /// The greatest depth of the text's brackets, or more.
     brackets: usize,
     /// When it holds, as far as that is known.
     truth: AtomicU8,
@@ -82,7 +83,8 @@ impl MarkerTree {
         MarkerTree::given(NEVER, NEVER_HOLDS)
     }
 
-    /// The marker of a text that the library has read as one, or of white space alone, which says nothing.
+    /// The marker of a text that the library has read as one, or of an empty text or white space, which
+    /// always holds.
     pub(crate) fn read_already(text: &str) -> MarkerTree {
         MarkerTree::given(text.trim(), UNKNOWN)
     }
@@ -91,7 +93,7 @@ impl MarkerTree {
         MarkerTree {
             text: text.into(),
             joined: None,
-            // (those in a text between quotes count too)
+            // (brackets in quoted strings are counted too)
             brackets: text.matches('(').count(),
             truth: AtomicU8::new(truth),
             key: Kept::default(),
@@ -102,7 +104,7 @@ impl MarkerTree {
     fn of_normal(answer: Result<String, Refused>) -> Result<MarkerTree, Refused> {
         match answer {
             Ok(text) => Ok(MarkerTree {
-                // (around clauses alone)
+                // (only clauses have brackets)
                 brackets: 1,
                 ..MarkerTree::given(&text, UNKNOWN)
             }),
@@ -111,8 +113,9 @@ impl MarkerTree {
         }
     }
 
-    /// The text as it was given, without the white space around it, or as it was joined by [`and`](MarkerTree::and) or
-    /// [`or`](MarkerTree::or). It is read again as an equal marker. It is empty for the marker without a text, `Default`, alone.
+    /// The text as it was given, without white space around it, or as it was joined by
+    /// [`and`](MarkerTree::and) or [`or`](MarkerTree::or). It is read again as an equal marker. Only the
+    /// marker without a text, `Default`, returns an empty text.
     ///
     /// ```
     /// use fowlyore::{MarkerTree, Requirement};
@@ -127,13 +130,9 @@ impl MarkerTree {
         &self.text
     }
 
-    /// The normal text, which markers of one meaning have in common, and which is read again as this marker; empty where it always
-    /// holds. It can be exponentially long in the marker's own text, and takes as long. Some markers have none, and are refused:
-    ///
-    /// - a text in it has a single quote, which the normal text would end at;
-    /// - it asks of a variable by an old name, as `os.name`;
-    /// - it has a version that is more than release numbers of epoch 0;
-    /// - it never holds.
+    /// The normal text: markers with the same meaning have the same, and it is read again as this marker;
+    /// empty if it always holds. It can be exponentially long in the marker's own text, and then needs as
+    /// much time.
     ///
     /// ```
     /// use fowlyore::MarkerTree;
@@ -150,13 +149,22 @@ impl MarkerTree {
     /// }
     /// # Ok::<(), fowlyore::Refused>(())
     /// ```
+    ///
+    /// # Errors
+    ///
+    /// `Refused` for a marker without a normal text:
+    ///
+    /// - it depends on a string with a single quote, at which the normal text would end;
+    /// - it depends on a variable with a deprecated name, as `os.name`;
+    /// - it has a version that is more than release numbers of epoch 0;
+    /// - it never holds.
     pub fn normal(&self) -> Result<String, Refused> {
         native::marker(self.readable())
     }
 
-    /// Bytes that are the same exactly where markers are equal, in whose order markers that hold at times stand. What they are
-    /// may change with the library. They grow with what the marker means, which may be exponential in its text, and so does the time that
-    /// asking takes; they are asked for once.
+    /// Bytes that are equal exactly if markers are equal, and in whose order markers that sometimes hold are
+    /// sorted. They may change with the library. They grow with what the marker means, which may be
+    /// exponential in its text, and so does the time to make them; they are made once.
     ///
     /// ```
     /// use fowlyore::MarkerTree;
@@ -202,7 +210,7 @@ impl MarkerTree {
         self.truth() == NEVER_HOLDS
     }
 
-    /// Whether both hold under no condition, and so in no environment.
+    /// Whether both hold together under no condition, and so in no environment.
     ///
     /// ```
     /// use fowlyore::MarkerTree;
@@ -217,7 +225,8 @@ impl MarkerTree {
         native::markers_disjoint(self.readable(), other.readable()).expect(IS_MARKER)
     }
 
-    /// Whether the other marker holds under each condition under which this one does, and so in each such environment.
+    /// Whether the other marker holds under each condition under which this one does, and so in each such
+    /// environment.
     ///
     /// ```
     /// use fowlyore::MarkerTree;
@@ -233,11 +242,12 @@ impl MarkerTree {
         native::marker_implies(self.readable(), other.readable()).expect(IS_MARKER)
     }
 
-    /// The marker that holds where both do. Its text is the two texts with `and` between them, each in brackets unless `and` joined
-    /// it already, so that a chain of any length nests no deeper than what it joins. No print and no key are made.
+    /// The conjunction: a marker that holds where both do. Its text is the two texts with `and` between them,
+    /// each in brackets unless it was joined by `and` already, so that a chain of any length nests no deeper
+    /// than its parts. Makes no print and no key.
     ///
-    /// Brackets of a marker may nest 256 deep. Where they would nest deeper, as they may where `and` and `or` alternate, the
-    /// [`normal`](MarkerTree::normal) texts are joined, at their cost; refused where what nests too deep has none.
+    /// The brackets of a marker may be nested 256 deep. Where they would be deeper, as they may be when `and`
+    /// and `or` alternate, the [`normal`](MarkerTree::normal) texts are joined, at their cost.
     ///
     /// ```
     /// use fowlyore::MarkerTree;
@@ -247,6 +257,10 @@ impl MarkerTree {
     /// assert_eq!(all.to_string(), "(os_name == 'nt' and extra == 'a') or (os_name == 'nt' and extra == 'b')");
     /// # Ok::<(), fowlyore::Refused>(())
     /// ```
+    ///
+    /// # Errors
+    ///
+    /// `Refused` if a part is nested too deep and has no normal text.
     pub fn and(&self, other: &MarkerTree) -> Result<MarkerTree, Refused> {
         match (self.is_left_out(), other.is_left_out()) {
             (true, _) => Ok(other.clone()),
@@ -255,7 +269,8 @@ impl MarkerTree {
         }
     }
 
-    /// The marker that holds where one of the two does, of a text that is made as by [`and`](MarkerTree::and).
+    /// The disjunction: a marker that holds where one of the two does. Its text is made as by
+    /// [`and`](MarkerTree::and).
     ///
     /// ```
     /// use fowlyore::MarkerTree;
@@ -265,6 +280,10 @@ impl MarkerTree {
     /// assert_eq!(windows.or(&MarkerTree::never())?, windows);
     /// # Ok::<(), fowlyore::Refused>(())
     /// ```
+    ///
+    /// # Errors
+    ///
+    /// `Refused` if a part is nested too deep and has no normal text.
     pub fn or(&self, other: &MarkerTree) -> Result<MarkerTree, Refused> {
         if self.is_left_out() || other.is_left_out() {
             return Ok(MarkerTree::default());
@@ -272,8 +291,7 @@ impl MarkerTree {
         self.joined(Connective::Or, other)
     }
 
-    /// The marker that holds where this one doesn't, of the normal text that says so. Refused where there is none, as
-    /// [`normal`](MarkerTree::normal) has it, but for a negation that never holds.
+    /// The negation: the marker that holds where this one doesn't, with the normal text of that.
     ///
     /// ```
     /// use fowlyore::MarkerTree;
@@ -284,13 +302,17 @@ impl MarkerTree {
     /// assert!("os.name == 'nt'".parse::<MarkerTree>()?.negate().is_err());
     /// # Ok::<(), fowlyore::Refused>(())
     /// ```
+    ///
+    /// # Errors
+    ///
+    /// `Refused` if the negation has no [`normal`](MarkerTree::normal) text, except if it never holds.
     pub fn negate(&self) -> Result<MarkerTree, Refused> {
         MarkerTree::of_normal(native::marker_negated(self.readable()))
     }
 
-    /// A marker that holds as this one does in each environment whose `python_full_version` lies from `lower` on and below `upper`,
-    /// and asks of it no more than that takes. Without a bound there is none on that side. Refused where it has no normal text, as
-    /// [`normal`](MarkerTree::normal) has it, but for one that never holds.
+    /// A marker that holds as this one does in each environment whose `python_full_version` is at least
+    /// `lower` and below `upper`, and tests `python_full_version` no more than that needs. `None` is no bound
+    /// on that side.
     ///
     /// ```
     /// use fowlyore::MarkerTree;
@@ -304,6 +326,10 @@ impl MarkerTree {
     /// assert_eq!(marker.simplify_python_versions(Some(&upper), None)?, MarkerTree::never());
     /// # Ok::<(), fowlyore::Refused>(())
     /// ```
+    ///
+    /// # Errors
+    ///
+    /// `Refused` if it has no [`normal`](MarkerTree::normal) text, except if it never holds.
     pub fn simplify_python_versions(
         &self,
         lower: Option<&Version>,
@@ -314,8 +340,7 @@ impl MarkerTree {
         MarkerTree::of_normal(simple)
     }
 
-    /// The marker with these extras taken as asked for, so that it asks of them no more. An extra that is no name is refused, and a marker
-    /// without a normal text, as [`normal`](MarkerTree::normal) has it, but for one that never holds.
+    /// The marker under the assumption that these extras are present, so that it doesn't test them.
     ///
     /// ```
     /// use fowlyore::MarkerTree;
@@ -326,12 +351,17 @@ impl MarkerTree {
     /// assert_eq!(marker.simplify_extras(&["no name!"]).unwrap_err().input, 2);
     /// # Ok::<(), fowlyore::Refused>(())
     /// ```
+    ///
+    /// # Errors
+    ///
+    /// `Refused` for an extra that is not a name, and for a marker without a [`normal`](MarkerTree::normal)
+    /// text, except if it never holds.
     pub fn simplify_extras(&self, extras: &[&str]) -> Result<MarkerTree, Refused> {
         MarkerTree::of_normal(native::marker_simplify_extras(self.readable(), extras))
     }
 
-    /// Whether it holds in an environment, which is JSON as of `reqs check`, with extras. An extra that is no name is refused. A
-    /// marker that always holds does so whatever the environment and the extras are.
+    /// Whether it holds in an environment, which is JSON as for `reqs check`, with extras. A marker that
+    /// always holds does so whatever the environment and the extras are, even if they are invalid.
     ///
     /// ```
     /// use fowlyore::{MarkerTree, Requirement};
@@ -351,6 +381,10 @@ impl MarkerTree {
     /// assert!("os_name ==\n'posix'".parse::<MarkerTree>().is_err());
     /// # Ok::<(), fowlyore::Refused>(())
     /// ```
+    ///
+    /// # Errors
+    ///
+    /// `Refused` for an extra that is not a name, and for an invalid environment.
     pub fn evaluate(&self, environment: &str, extras: &[&str]) -> Result<bool, Refused> {
         if self.text.is_empty() {
             return Ok(true);
@@ -384,7 +418,7 @@ impl MarkerTree {
         truth
     }
 
-    /// What markers are compared by: markers that always hold are one, as are those that never do.
+    /// What markers are compared by: all markers that always hold are equal, as are all that never do.
     fn place(&self) -> (u8, &[u8]) {
         match self.truth() {
             truth @ (ALWAYS_HOLDS | NEVER_HOLDS) => (truth, &[]),
@@ -392,13 +426,13 @@ impl MarkerTree {
         }
     }
 
-    /// Whether it may say nothing, as `'a' == 'b'` does: such a marker always holds, but within another text it is passed over by `or`
-    /// too. What was joined here says something.
+    /// Whether it may be a comparison that means nothing, as `'a' == 'b'`: such a marker always holds, but
+    /// within another text it is ignored by `or` too. A marker that was joined here means something.
     fn is_left_out(&self) -> bool {
         self.joined.is_none() && self.is_true()
     }
 
-    /// The joined texts, or the joined normal texts where the brackets of the others nest too deep.
+    /// The joined texts, or the joined normal texts if the brackets of the others are nested too deep.
     fn joined(&self, by: Connective, other: &MarkerTree) -> Result<MarkerTree, Refused> {
         self.chained(by, other).or_else(|refused| {
             let (left, right) = (self.flat(), other.flat());
@@ -420,7 +454,7 @@ impl MarkerTree {
         })
     }
 
-    /// The marker of the normal text where it has one, and else the marker itself. It says something.
+    /// The marker of the normal text if it has one, and otherwise the marker itself. It means something.
     fn flat(&self) -> MarkerTree {
         let flat = MarkerTree::of_normal(self.normal()).unwrap_or_else(|_| self.clone());
         if flat.text.is_empty() {
@@ -429,7 +463,7 @@ impl MarkerTree {
         flat
     }
 
-    /// The text as a piece of a chain.
+    /// The text as a part of a chain.
     fn piece(&self, by: Connective) -> String {
         if self.joined == Some(by) {
             self.text.to_string()
@@ -438,13 +472,13 @@ impl MarkerTree {
         }
     }
 
-    /// How deep the brackets of the piece nest at most.
+    /// The greatest depth of the brackets in the part.
     fn brackets_in(&self, by: Connective) -> usize {
         self.brackets + usize::from(self.joined != Some(by))
     }
 }
 
-/// The text of a bound, which is empty where there is none.
+/// The text of a bound, which is empty for no bound.
 fn bound(version: Option<&Version>) -> &str {
     version.map_or("", Version::as_str)
 }
@@ -486,9 +520,10 @@ impl fmt::Debug for MarkerTree {
     }
 }
 
-/// Prints the [`normal`](MarkerTree::normal) text, at the cost that is said there, or the text as it was given where there is no normal
-/// one. The print is read again as an equal marker, unless the marker always holds: then nothing is printed, and the marker is
-/// written by leaving it out (as `try_to_string` of the crate `pep508_rs` gives nothing for it).
+/// Prints the [`normal`](MarkerTree::normal) text, at the cost that is stated there, or the given text if
+/// there is no normal one. The print is read again as an equal marker, unless the marker always holds: then
+/// nothing is printed, and the marker is written by omitting it (as `try_to_string` of the crate `pep508_rs`
+/// returns `None` for it).
 ///
 /// ```
 /// use fowlyore::MarkerTree;

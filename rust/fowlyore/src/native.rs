@@ -1,4 +1,4 @@
-//! The C functions of `include/reqs.h`: texts go in as slices, and a text or a refusal comes out.
+//! The C functions of `include/reqs.h`: texts are passed as slices, and a text or a refusal is returned.
 
 use crate::Refused;
 use std::alloc::{handle_alloc_error, Layout};
@@ -19,18 +19,18 @@ const DIFFERENT: u32 = 1;
 const REFUSED: u32 = 2;
 const MEMORY: u32 = 3;
 const KEY_REFUSED: i64 = -2;
-/// The room that nearly every answer about one short text fits.
+/// The size of a buffer that fits nearly every answer about one short text.
 const ROOM: usize = 256;
-/// The most room that is given for an answer about lists before its length is known.
+/// The greatest size of a buffer for an answer about lists before its length is known.
 const MOST_ROOM: usize = 16 << 20;
-/// Which text of a call has the extras.
+/// The number of the text with the extras.
 const EXTRAS_OF_LISTS: u32 = 4;
 const EXTRAS_OF_MARKERS: u32 = 3;
 const EXTRAS_TO_SIMPLIFY: u32 = 2;
-/// What the library says of a marker that never holds, where it is asked for a normal text.
+/// The library's message for a marker that never holds and so has no normal text.
 const NEVER_HOLDS: &str = "no normal text: never holds";
 
-// `tests/rust.sh` holds these against `include/reqs.h`.
+// `tests/rust.sh` compares these with `include/reqs.h`.
 #[rustfmt::skip]
 extern "C" {
     fn reqs_abi() -> u32;
@@ -91,7 +91,7 @@ extern "C" {
     fn reqs_specifiers_empty(text: *const u8, text_len: usize, out: *mut u8, out_len: usize) -> Reply;
 }
 
-/// What a call answered, and whether it said that two lists differ.
+/// The answer of a call, and whether it is that two lists differ.
 pub(crate) struct Answer {
     bytes: Vec<u8>,
     pub is_different: bool,
@@ -103,7 +103,7 @@ impl Answer {
         written(self.bytes)
     }
 
-    /// Whether the library wrote a yes, as which `1` stands.
+    /// Whether the library wrote `1`, which means yes.
     fn is_yes(&self) -> bool {
         self.bytes == b"1"
     }
@@ -113,12 +113,12 @@ fn written(bytes: Vec<u8>) -> String {
     String::from_utf8(bytes).expect("the library writes UTF-8")
 }
 
-/// Ends the process, as Rust's own collections do where memory runs out.
+/// Ends the process, as Rust's own collections do when memory runs out.
 fn out_of_memory() -> ! {
     handle_alloc_error(Layout::new::<u8>())
 }
 
-/// The answer of a call that writes into a buffer, which is asked again where the buffer was too short.
+/// The answer of a call that writes into a buffer. The call is repeated if the buffer was too short.
 fn answered(room: usize, call: impl Fn(*mut u8, usize) -> Reply) -> Result<Answer, Refused> {
     let mut out = vec![0; room];
     let mut reply = call(out.as_mut_ptr(), out.len());
@@ -132,7 +132,7 @@ fn answered(room: usize, call: impl Fn(*mut u8, usize) -> Reply) -> Result<Answe
         out_of_memory();
     }
     out.truncate(reply.length);
-    // (who keeps the answer doesn't keep the room that it didn't need)
+    // (so that a kept answer doesn't keep the rest of the buffer)
     out.shrink_to_fit();
     if reply.status == REFUSED {
         return Err(Refused {
@@ -149,19 +149,19 @@ fn answered(room: usize, call: impl Fn(*mut u8, usize) -> Reply) -> Result<Answe
     })
 }
 
-/// The number of the interface that the linked library has.
+/// The version number of the linked library's interface.
 pub(crate) fn abi() -> u32 {
-    // SAFETY: it takes nothing, and touches no memory.
+    // SAFETY: it takes no argument, and touches no memory.
     unsafe { reqs_abi() }
 }
 
-/// Whether the linked library has the interface that stands above.
+/// Whether the linked library has the interface that is declared above.
 pub(crate) fn is_known() -> bool {
     abi() == ABI
 }
 
-/// Extras one a line, as the library takes them. It would read one that holds a line feed as several, and pass over an empty one:
-/// these are refused here, as it refuses others that are no names.
+/// Extras one per line, as the library reads them. It would read one with a line feed as several, and skip an
+/// empty one: these are refused here, as it refuses others that are not names.
 fn extra_lines(extras: &[&str], input: u32) -> Result<String, Refused> {
     match extras.iter().find(|it| it.is_empty() || it.contains('\n')) {
         None => Ok(extras.join("\n")),
@@ -175,16 +175,19 @@ fn extra_lines(extras: &[&str], input: u32) -> Result<String, Refused> {
     }
 }
 
-/// The room for rows about so many environments: a row is seldom longer than the line that asks for it.
+/// The buffer size for rows about `environments` environments: a row is seldom longer than the line that
+/// requires it.
 fn room_for_rows(requirements: &[u8], environments: usize) -> usize {
     let each = ROOM + requirements.len();
     each.saturating_mul(environments).clamp(ROOM, MOST_ROOM)
 }
 
-/// What a function answers about texts, each of which it takes as a pointer and a length, and perhaps with a limit.
+/// The answer of a function about texts, each of which is passed as a pointer and a length, and perhaps with
+/// a limit.
 macro_rules! asked {
     ($call:ident, $room:expr, $($text:ident),+ $(; $limit:ident)?) => {
-        // SAFETY: the pointers and lengths are those of slices that live until the call is over, and `out` is of its own.
+        // SAFETY: the pointers and lengths are those of slices that live until the call is over, and `out` is
+        // a buffer of its own.
         answered($room, |out, len| unsafe {
             $call($($text.as_ptr(), $text.len(),)+ $($limit,)? out, len)
         })
@@ -195,7 +198,7 @@ pub(crate) fn version(text: &str) -> Result<String, Refused> {
     asked!(reqs_version, ROOM, text).map(Answer::text)
 }
 
-/// The key of a text's version, or nothing where it is none.
+/// The key of a text's version, or `None` if it is invalid.
 pub(crate) fn version_key(text: &str) -> Option<Vec<u8>> {
     let mut out = vec![0; ROOM];
     loop {
@@ -218,7 +221,8 @@ pub(crate) fn specifiers(text: &str) -> Result<String, Refused> {
     asked!(reqs_specifiers, ROOM + text.len(), text).map(Answer::text)
 }
 
-/// A byte for each line: `1` where the list takes the version, `0` where it doesn't, `?` where it is none.
+/// A byte for each line: `1` if the list accepts the version, `0` if it doesn't, `?` if the line is not a
+/// version.
 pub(crate) fn specifiers_take(list: &str, versions: &str) -> Result<String, Refused> {
     let room = ROOM.max(versions.matches('\n').count());
     asked!(reqs_specifiers_take, room, list, versions).map(Answer::text)
@@ -245,12 +249,12 @@ pub(crate) fn marker(text: &str) -> Result<String, Refused> {
     asked!(reqs_marker, ROOM + text.len(), text).map(Answer::text)
 }
 
-/// The key of a marker, in which a comparison seldom takes more than its text does eight times.
+/// The key of a marker, in which a comparison is seldom longer than eight times its text.
 pub(crate) fn marker_key(text: &str) -> Result<Vec<u8>, Refused> {
     asked!(reqs_marker_key, ROOM + 8 * text.len(), text).map(|it| it.bytes)
 }
 
-/// When a marker holds, as the library writes it: `1` always, `0` never, `-` at times.
+/// When a marker holds, as the library writes it: `1` always, `0` never, `-` sometimes.
 pub(crate) fn marker_truth(text: &str) -> Result<u8, Refused> {
     asked!(reqs_marker_truth, ROOM, text).map(|it| it.bytes[0])
 }
@@ -267,7 +271,8 @@ pub(crate) fn marker_negated(text: &str) -> Result<String, Refused> {
     asked!(reqs_marker_negated, ROOM + text.len(), text).map(Answer::text)
 }
 
-/// The bounds are empty where there are none.
+/// The normal text of a marker, simplified to versions of Python between the bounds; an empty text is no
+/// bound.
 pub(crate) fn marker_simplify_python(
     text: &str,
     lower: &str,
@@ -283,12 +288,12 @@ pub(crate) fn marker_simplify_extras(text: &str, extras: &[&str]) -> Result<Stri
     asked!(reqs_marker_simplify_extras, room, text, extras).map(Answer::text)
 }
 
-/// Whether a text is refused as one of a marker that never holds, which has no normal text.
+/// Whether a text was refused as that of a marker that never holds, which has no normal text.
 pub(crate) fn never_holds(refused: &Refused) -> bool {
     refused.message == NEVER_HOLDS
 }
 
-/// A byte for each line: `1` where the marker holds, `0` where it doesn't, `?` where it is none.
+/// A byte for each line: `1` if the marker holds, `0` if it doesn't, `?` if the line is not a marker.
 pub(crate) fn markers_hold(
     markers: &str,
     environment: &str,
@@ -341,7 +346,7 @@ mod tests {
     use std::cell::Cell;
 
     thread_local! {
-        /// How often this thread's calls were made again, for want of room.
+        /// The number of this thread's calls that were repeated since the buffer was too short.
         pub(super) static ASKED_AGAIN: Cell<usize> = const { Cell::new(0) };
     }
 
@@ -350,7 +355,7 @@ mod tests {
         "platform_system": "Linux", "platform_version": "", "python_full_version": "3.11.7",
         "python_version": "3.11", "sys_platform": "linux"}"#;
 
-    /// How many answers of some calls didn't fit the room that they were given first.
+    /// The number of repeated calls while `ask` runs.
     fn asked_again(ask: impl FnOnce()) -> usize {
         let before = ASKED_AGAIN.with(Cell::get);
         ask();

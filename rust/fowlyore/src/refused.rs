@@ -13,13 +13,13 @@ use std::fmt;
 pub struct Refused {
     /// What is wrong.
     pub message: String,
-    /// Which text of the call is at fault, from 1, and 0 where none is told.
+    /// The number of the text at fault in the call, from 1; 0 if there is none.
     pub input: u32,
-    /// The line at fault, from 1, and 0 where the text is one.
+    /// The number of the line at fault, from 1; 0 if the text isn't read by lines.
     pub line: usize,
-    /// Where the part at fault begins, in bytes of the line or the text.
+    /// The first byte at fault, in the line or the text.
     pub start: usize,
-    /// How many bytes it has.
+    /// The number of bytes at fault.
     pub len: usize,
 }
 
@@ -31,7 +31,7 @@ impl fmt::Display for Refused {
 
 impl Error for Refused {}
 
-/// Refuses a text that goes over more than one line: PEP 508 has no line feed, and the library's batches have lines.
+/// Refuses a text of more than one line: PEP 508 has no line feed, and the library's batches have lines.
 pub(crate) fn on_one_line(text: &str) -> Result<(), Refused> {
     let blanks = text.len() - text.trim_start().len();
     match text.trim().find('\n') {

@@ -5,8 +5,9 @@ use crate::{native, MarkerTree, Refused, VersionSpecifiers};
 use std::fmt;
 use std::str::FromStr;
 
-/// A requirement, of one line. Requirements are equal where their fields are, and ordered by their names, then by the fields after
-/// it. Where two are alike but for their markers, these are compared by their keys ([`MarkerTree`]).
+/// A requirement, of one line. Requirements are equal if their fields are, and ordered by their names, then
+/// by the fields after it. Requirements that only differ in their markers are ordered by the keys of these
+/// ([`MarkerTree`]).
 ///
 /// ```
 /// use fowlyore::Requirement;
@@ -24,11 +25,11 @@ pub struct Requirement {
     pub name: String,
     /// The extras' normal names.
     pub extras: Vec<String>,
-    /// What its version has to match. Empty where there is a URL.
+    /// The specifiers that its version has to match. Empty if there is a URL.
     pub specifiers: VersionSpecifiers,
-    /// Where it is to be had from.
+    /// The URL of the package, if the requirement has one.
     pub url: Option<String>,
-    /// Where it applies, as it stands in the text; the marker that always holds where none stands there.
+    /// When it applies, as written in the text; a marker that always holds if there is none in the text.
     pub marker: MarkerTree,
 }
 
@@ -55,7 +56,7 @@ impl FromStr for Requirement {
     }
 }
 
-/// The part of a text at a place: the first byte and the number of bytes, or nothing.
+/// The part of a text at a place, which is the first byte and the number of bytes, or empty for no part.
 fn part_of<'text>(text: &'text str, place: &str) -> &'text str {
     let number = |it: &str| it.parse::<usize>().expect("a place has two numbers");
     match place.split_once(' ') {
@@ -64,8 +65,8 @@ fn part_of<'text>(text: &'text str, place: &str) -> &'text str {
     }
 }
 
-/// Prints the parts' normal texts, and the marker as that prints itself; one that always holds is left out. The print is read again as
-/// an equal requirement.
+/// Prints the parts' normal texts, and the marker as it prints itself; one that always holds is omitted. The
+/// print is read again as an equal requirement.
 ///
 /// ```
 /// use fowlyore::Requirement;

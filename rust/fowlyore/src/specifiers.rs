@@ -4,19 +4,22 @@ use crate::{native, Refused, Version};
 use std::fmt;
 use std::str::FromStr;
 
-/// A list of specifiers, all of which a version has to match. Its members stand in the order of their versions. Lists are equal
-/// where their members' texts are: `==1` is another list than `==1.0`, although both take the same versions. They are ordered by
-/// these texts.
+/// A list of specifiers, all of which a version has to match. Its members are in the order of their versions.
+/// Lists are equal if their members' texts are: `==1` is another list than `==1.0`, although both accept the
+/// same versions. They are ordered by these texts.
 ///
-/// As a range, a list is a set of points on the line of versions: of each version, and of the places between two versions that
-/// stand next to each other. [`is_disjoint`](VersionSpecifiers::is_disjoint), [`is_subset`](VersionSpecifiers::is_subset) and
-/// [`is_empty_range`](VersionSpecifiers::is_empty_range) are exact over points. So a point can keep two lists apart that match the
-/// same versions: `<2` ends before all that begins with 2, and `~=1.2` just after that, at `2.dev0`. So `>=1.2,<2` is a subset of
-/// `~=1.2`, and `~=1.2` is no subset of `>=1.2,<2`. A list matches a version just where the version is a point of its range, if the
-/// version has no local part, and the list no `===`, no `<` before a post-release and no `>` before what isn't a final release; `==1`
-/// matches `1+a`, which is a point of `==1+a` alone.
+/// As a range, a list is a set of points on the line of versions: of each version, and of the places between
+/// two adjacent versions. [`is_disjoint`](VersionSpecifiers::is_disjoint),
+/// [`is_subset`](VersionSpecifiers::is_subset) and [`is_empty_range`](VersionSpecifiers::is_empty_range) are
+/// exact over points. So two lists that match the same versions can differ in a point: `<2` ends before
+/// everything that begins with 2, and `~=1.2` just after that, at `2.dev0`. So `>=1.2,<2` is a subset of
+/// `~=1.2`, and `~=1.2` is no subset of `>=1.2,<2`. A list matches a version exactly if the version is a
+/// point of its range, provided that the version has no local part, and the list no `===`, no `<` with a
+/// post-release and no `>` with anything but a final release; `==1` matches `1+a`, which is a point of
+/// `==1+a` alone.
 ///
-/// The three are refused where the range needs a number that is greater by one than 2^64 - 1, as that of `~=1.18446744073709551615.0`.
+/// These three refuse a list whose range needs a number that is greater by one than 2^64 - 1, as that of
+/// `~=1.18446744073709551615.0`.
 ///
 /// ```
 /// use fowlyore::{Version, VersionSpecifiers};
@@ -40,13 +43,13 @@ impl VersionSpecifiers {
         &self.members
     }
 
-    /// Whether all members match the version. A pre-release is a version as any other.
+    /// Whether all members match the version. Pre-releases are treated as any other version.
     #[must_use]
     pub fn contains(&self, version: &Version) -> bool {
         self.marks(&format!("{version}\n")) == "1"
     }
 
-    /// The same of each version, by one call.
+    /// Whether all members match each of the versions, by one call of the library.
     #[must_use]
     pub fn contains_each(&self, versions: &[Version]) -> Vec<bool> {
         let lines: String = versions.iter().map(|it| format!("{it}\n")).collect();
@@ -56,7 +59,7 @@ impl VersionSpecifiers {
             .collect()
     }
 
-    /// Whether no point lies in both ranges.
+    /// Whether the ranges of both lists are disjoint: no point is in both.
     ///
     /// ```
     /// use fowlyore::VersionSpecifiers;
@@ -66,11 +69,15 @@ impl VersionSpecifiers {
     /// assert!(!old.is_disjoint(&">=1.9".parse()?)?);
     /// # Ok::<(), fowlyore::Refused>(())
     /// ```
+    ///
+    /// # Errors
+    ///
+    /// `Refused` for a list whose range needs a number past 64 bits.
     pub fn is_disjoint(&self, other: &VersionSpecifiers) -> Result<bool, Refused> {
         native::specifiers_disjoint(&self.list(), &other.list())
     }
 
-    /// Whether each point of this range lies in the other one.
+    /// Whether this range is a subset of the other one: each of its points is in that.
     ///
     /// ```
     /// use fowlyore::VersionSpecifiers;
@@ -80,11 +87,16 @@ impl VersionSpecifiers {
     /// assert!(!compatible.is_subset(&between)?);
     /// # Ok::<(), fowlyore::Refused>(())
     /// ```
+    ///
+    /// # Errors
+    ///
+    /// `Refused` for a list whose range needs a number past 64 bits.
     pub fn is_subset(&self, other: &VersionSpecifiers) -> Result<bool, Refused> {
         native::specifiers_subset(&self.list(), &other.list())
     }
 
-    /// Whether no point lies in the range, as where the list contradicts itself. A list without members has every point.
+    /// Whether the range is empty: no point is in it, as when the list contradicts itself. A list without
+    /// members has every point.
     ///
     /// ```
     /// use fowlyore::VersionSpecifiers;
@@ -94,6 +106,10 @@ impl VersionSpecifiers {
     /// assert!(!VersionSpecifiers::default().is_empty_range()?);
     /// # Ok::<(), fowlyore::Refused>(())
     /// ```
+    ///
+    /// # Errors
+    ///
+    /// `Refused` for a list whose range needs a number past 64 bits.
     pub fn is_empty_range(&self) -> Result<bool, Refused> {
         native::specifiers_empty(&self.list())
     }

@@ -6,7 +6,8 @@ use std::fmt;
 use std::hash::{Hash, Hasher};
 use std::str::FromStr;
 
-/// A version, which compares by PEP 440, "Summary of permitted suffixes and relative ordering". Its numbers are below 2^64.
+/// A version, which compares by PEP 440, "Summary of permitted suffixes and relative ordering". Its numbers
+/// are below 2^64.
 ///
 /// ```
 /// use fowlyore::Version;
@@ -31,7 +32,8 @@ impl Version {
         &self.text
     }
 
-    /// Bytes in whose order versions stand: those of two versions compare as the versions do, and are equal where these are.
+    /// Bytes in whose order versions sort: those of two versions compare as the versions do, and are equal if
+    /// these are.
     #[must_use]
     pub fn key(&self) -> &[u8] {
         &self.key
@@ -41,7 +43,11 @@ impl Version {
 impl FromStr for Version {
     type Err = Refused;
 
-    /// The version of a text: one call for the normal text, and one for the key.
+    /// The version of a text, by one call for the normal text and one for the key.
+    ///
+    /// # Errors
+    ///
+    /// `Refused` for a text that is not a version.
     fn from_str(text: &str) -> Result<Version, Refused> {
         let text = native::version(text)?.into_boxed_str();
         let key = native::version_key(&text).expect("a normal text is a version's");

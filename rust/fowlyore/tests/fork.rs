@@ -12,7 +12,7 @@ extern "C" {
     fn _exit(status: i32) -> !;
 }
 
-/// Whether values are read and compared as they are anywhere.
+/// Whether values are read and compared as they are anywhere else.
 fn works(shared: &MarkerTree) -> bool {
     let line: Requirement = "foo>=1 ; os_name == \"it's\" or extra == 'a'"
         .parse()
@@ -47,9 +47,10 @@ fn children_of_a_process_with_threads_call() {
     });
 }
 
-/// How a child ended that made some calls: by 0 where they answered as they should, and by a signal where they never did.
+/// How a child ended that made some calls: with status 0 if they answered as they should, and by a signal if
+/// they never returned.
 fn status_of_child(shared: &MarkerTree) -> i32 {
-    // SAFETY: the child calls the library, takes memory and ends; glibc keeps memory usable there.
+    // SAFETY: the child calls the library, allocates memory and ends; glibc keeps memory usable there.
     unsafe {
         let process = fork();
         if process == 0 {

@@ -202,7 +202,7 @@ fn what_never_and_always_holds() {
     assert!(never.is_disjoint(&never) && never.is_disjoint(&always) && !always.is_disjoint(&some));
 }
 
-/// A comparison that means nothing always holds, and is passed over within another marker.
+/// A comparison that means nothing always holds, and is ignored within another marker.
 #[test]
 fn what_says_nothing_always_holds() {
     let (nothing, some) = (read("'a' == 'b'"), read("os_name == 'nt'"));
@@ -261,7 +261,7 @@ fn a_thousand_markers_are_joined_both_ways() {
     assert_eq!(any.evaluate(&environment, &["b"]), Ok(false));
 }
 
-/// Where brackets would nest deeper than they may, normal texts are joined.
+/// If brackets would be nested too deep, normal texts are joined.
 #[test]
 fn connectives_alternate_at_will() {
     let extras: Vec<MarkerTree> = (0..4).map(|it| read(&format!("extra == '{it}'"))).collect();
@@ -286,7 +286,7 @@ fn connectives_alternate_at_will() {
     assert!(refused.message.contains("256"), "{refused}");
 }
 
-/// A text between so many brackets.
+/// A text in `count` pairs of brackets.
 fn nested(count: usize, text: &str) -> MarkerTree {
     read(&format!("{}{text}{}", "(".repeat(count), ")".repeat(count)))
 }
@@ -303,7 +303,7 @@ fn given_brackets_count() {
     assert_eq!(always.and(&windows), Ok(windows.clone()));
     let never = fewer.and(&read("os_name == 'b'")).unwrap();
     assert_eq!(never.or(&windows), Ok(windows.clone()));
-    // those in texts don't nest
+    // brackets in strings don't count
     let text = read(&format!("os_name == '{}'", "(".repeat(1000)));
     assert!(text.and(&windows).unwrap().is_false());
     let either = windows.or(&text).unwrap();

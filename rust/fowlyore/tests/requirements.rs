@@ -1,4 +1,4 @@
-//! Requirements: that their markers are what stands in the text, and that prints are read again.
+//! Requirements: their markers are what is written in the text, and prints are read again.
 
 mod drawn;
 
@@ -79,7 +79,7 @@ fn drawn_requirements_read_back() {
     }
 }
 
-/// The command is asked of the text, which says whether the requirement applies.
+/// The command is run on the text, and reports whether the requirement applies.
 #[test]
 fn requirements_apply_as_their_texts_do() {
     let mut draws = Draws::of(12);

@@ -5,7 +5,7 @@ mod drawn;
 use drawn::Draws;
 use fowlyore::{Version, VersionSpecifiers};
 
-/// Specifiers that match each version without a local part just where it is a point of their range.
+/// Specifiers that match each version without a local part exactly if it is a point of their range.
 const MEMBERS: [&str; 12] = [
     ">=1", ">=1.2", "<2", "<1.2", "<=1.2", ">1.2", "==1.2", "!=1.2", "==1.*", "!=1.2.*", "~=1.2",
     "<2rc1",
@@ -89,7 +89,7 @@ fn sides_are_told_apart() {
     );
 }
 
-/// What stands between versions counts, and local parts are points of their own.
+/// Points between versions count, and local versions are points of their own.
 #[test]
 fn points_are_no_versions() {
     let (compatible, between) = (read("~=1.2"), read(">=1.2,<2"));

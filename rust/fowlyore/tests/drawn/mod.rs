@@ -1,4 +1,5 @@
-//! Markers, requirements, environments and versions that are drawn at random, the same ones for one seed.
+//! Markers, requirements, environments and versions that are drawn at random, the same ones for the same
+//! seed.
 #![allow(dead_code)]
 
 const VERSION_KEYS: [&str; 3] = [
@@ -85,7 +86,7 @@ impl Draws {
         (self.next() % end as u64) as usize
     }
 
-    /// Whether one of so many draws came.
+    /// True for one of `count` draws on average.
     fn once_in(&mut self, count: usize) -> bool {
         self.below(count) == 0
     }
@@ -180,7 +181,7 @@ impl Draws {
         )
     }
 
-    /// An environment as JSON, of the version of Python that is given.
+    /// An environment as JSON, with this version of Python.
     pub fn environment(&mut self, full_version: &str) -> String {
         let mut value = |key: &str| format!("\"{key}\": \"{}\"", escaped(self.one(&TEXTS)));
         let texts: Vec<String> = [
@@ -227,7 +228,7 @@ impl Draws {
     }
 }
 
-/// The text between quotes that it doesn't have.
+/// The text in quotes of a kind that it doesn't have.
 fn quoted(text: &str) -> String {
     if text.contains('\'') {
         format!("\"{text}\"")
