@@ -103,7 +103,10 @@ fn push_part(text: &mut String, part: FormulaPart<'_>) -> Result<(), AllocError>
 fn shown(alloc: Global, formula: &MarkerFormula) -> Result<String, AllocError> {
     let mut text = String::new(alloc);
     let mut left: Parts<'_> = formula.parts();
-    while let Some((part, behind)) = left.split_first() {
+    for _ in 0..u64::MAX {
+        let Some((part, behind)) = left.split_first() else {
+            break;
+        };
         push_part(&mut text, part)?;
         left = behind;
     }
