@@ -38,7 +38,7 @@ NOTHING, RELEASE = "--from-nothing", "--release"
 SCRIPTS = {"--wrong": (["wrong.py"], ["mutants.py", "--again"]), "--mutants": (["mutants.py"],), "--faults": (["faults.py"],)}
 QUESTIONS = ("pep440_vectors", "pep508_vectors", "pep508_marker_vectors")
 # What of tests/ the parts read that run programs.
-OF_REQS = ("alike.py", "cli.sh", "documented.py", "drawn.py", "ends.c", "ends.py", "help.txt", "install.sh", "lists", "numerals.py",
+OF_REQS = ("alike.py", "cli.sh", "documented.py", "drawn.py", "ends.c", "ends.py", "help.txt", "install.sh", "numerals.py",
            "objects.py", "pages", "pairs.py", "refuse.c", "refused.py", "refused.sh", "rows.py", "runs.json", "runs.py", "sizes.py",
            "try.sh")
 OF_C = ("c", "c.py", "c.sh", "calls.py", "fuzz.py", "refuse.c", "runs.json")
@@ -57,6 +57,10 @@ class Part:
             return None
         programs = [keys.of_proof(crates, it) for it in self.programs]
         return f"{keys.summed((self.name, toolchain_sum(), programs, verdicts.of_part(self.words, self.rests_on)))}.part"
+
+    def missing(self):
+        """What it rests on and isn't there."""
+        return [it for it in self.rests_on if not os.path.exists(os.path.join(TOP, it))]
 
 
 def parts(more):
@@ -130,6 +134,9 @@ def judged(part, crates, store, show):
     failed and nothing was left out."""
     began = time.monotonic()
     show(f"test: {part.name}\n")
+    if part.missing():
+        show(f"test: {part.name}: 0 passed, 1 failed, since it rests on what isn't there: {', '.join(part.missing())}\n")
+        return 0, 1, []
     entry = part.entry(crates)
     kept = re.fullmatch(r"(\d+) passed", store.verdict(entry) or "") if entry else None
     if kept:
