@@ -20,6 +20,8 @@ __all__ = ["Explanation", "Line", "Refusal", "check_explained", "explain"]
 NAMED = 3
 # How many characters of lines one call is asked of, in which there are at most 16 MiB.
 BATCH = 1 << 21
+# At least as many characters as a package name takes in a call, with those around it.
+NAME_ROOM = 10
 # How many times more candidates a line is asked about in each round than in the one before.
 GROWTH = 8
 # The greatest number in a version.
@@ -132,8 +134,9 @@ class _Offer(NamedTuple):
 
     @property
     def size(self) -> int:
-        """About how many characters are asked."""
-        return sum(len(it.rest) for it in self.lines) + sum(len(str(it)) for it in self.versions)
+        """At least as many characters as are asked."""
+        texts = sum(len(it.rest) for it in self.lines) + sum(len(str(it)) for it in self.versions)
+        return texts + NAME_ROOM * (len(self.lines) + len(self.versions) + 2)
 
     def lines_of(self, name: str) -> str:
         """The lines as those of a package, with one that accepts all versions and lets pre-releases in: it
@@ -323,7 +326,7 @@ def _without_candidate(
         of_ranks = refusing[: len(versions[name])]
         refused[name] = [it for it in of_name if all(it.number in those for those in of_ranks)]
         kinds = _kinds(versions[name][: NAMED - 1 : -1]) if refused[name] else []
-        for line in refused[name]:
+        for line in refused[name] if kinds else ():
             specifiers = _specifiers_of(line)
             left[line] = [_Left(it, _within(specifiers, it)) for it in kinds]
     accepting = _accepting(left, question)

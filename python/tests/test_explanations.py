@@ -156,6 +156,11 @@ class Calls(unittest.TestCase):
         found, sizes = self.asked(lines, ENVIRONMENT, candidates)
         self.assertEqual([it.name for it in found], names)
         self.assertLessEqual(len(sizes), 1 + 3 + 1 + 1)
+        batches = mock.patch.object(fowlyore.explanations, "BATCH", 400)
+        with batches, mock.patch.object(_native, "check", side_effect=_native.check) as calls:
+            self.assertEqual(explain(lines, ENVIRONMENT, candidates), found)
+        asked = [len(it.args[0]) + len(it.args[2]) for it in calls.call_args_list[1:]]
+        self.assertLessEqual(max(asked), 400)
         for number, it in enumerate(found[:10]):
             others = [line if 4 * number <= at < 4 * number + 4 else "" for at, line in enumerate(lines)]
             self.assertEqual(explain(others, ENVIRONMENT, candidates), [it])
