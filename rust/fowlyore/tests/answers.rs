@@ -115,7 +115,7 @@ fn tables_are_what_each_environment_is_answered() {
                 > count,
         );
     }
-    assert!(alike > 50, "{alike}");
+    assert!(alike > 20, "{alike}");
 }
 
 #[test]
