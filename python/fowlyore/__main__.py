@@ -9,8 +9,9 @@ import re
 import shutil
 import sys
 import warnings
+from contextlib import contextmanager, suppress
 from pathlib import Path
-from typing import Any, Dict, Iterable, List, NamedTuple, Optional, Union
+from typing import Any, Dict, Iterable, Iterator, List, NamedTuple, NoReturn, Optional, Union
 
 from . import __version__, tables
 from .distributions import installed, normal_name
@@ -29,6 +30,8 @@ from .version import InvalidVersion, Version
 
 ANSWERED, DIFFERENT, REFUSED, NOT_READ, STRICT = range(5)
 Source = Union[Path, bytes]
+# What a standard stream is called.
+OUTPUT = "standard output"
 # The words that name an input.
 INPUTS = ("requirements", "environment", "environments", "candidates", "left", "right")
 
@@ -46,7 +49,25 @@ def source(word: str) -> Source:
     # (None where the process was started without it)
     if sys.stdin is None:
         raise OSError("standard input is closed")
-    return sys.stdin.buffer.read()
+    with of_stream("standard input"):
+        return sys.stdin.buffer.read()
+
+
+@contextmanager
+def of_stream(name: str) -> Iterator[None]:
+    """Names a standard stream in the error of reading or writing it."""
+    try:
+        yield
+    except OSError as error:
+        error.filename = name
+        raise
+
+
+def discard(stream: Any) -> None:
+    """Sends to nowhere what is kept for a stream that can't be written, so that the interpreter doesn't fail
+    to write it when it ends."""
+    with suppress(OSError):
+        os.dup2(os.open(os.devnull, os.O_WRONLY), stream.fileno())
 
 
 def listing(word: str, groups: List[str]) -> Listing:
@@ -85,15 +106,48 @@ def asked(words: argparse.Namespace) -> Listing:
 def show(*words: object, sep: str = "\n") -> None:
     """Prints a part of the answer."""
     if sys.stdout is None:
-        raise OSError("standard output is closed")
-    print(*words, sep=sep)
+        raise OSError(f"{OUTPUT} is closed")
+    with of_stream(OUTPUT):
+        print(*words, sep=sep)
+
+
+def flush_output() -> None:
+    """Writes what was printed and is still kept."""
+    if sys.stdout is not None:
+        with of_stream(OUTPUT):
+            sys.stdout.flush()
 
 
 def complain(sentence: str) -> None:
-    """Prints a sentence on standard error, if there is one: without it `print` would write to standard
-    output."""
-    if sys.stderr is not None:
-        print(f"fowlyore: {sentence}", file=sys.stderr)
+    """Prints a sentence on standard error."""
+    show_error(f"fowlyore: {sentence}")
+
+
+def show_error(text: str) -> None:
+    """Prints on standard error, if that can be written: without it `print` would write to standard output."""
+    if sys.stderr is None:
+        return
+    try:
+        print(text, file=sys.stderr, flush=True)
+    except OSError:
+        discard(sys.stderr)
+
+
+class Parser(argparse.ArgumentParser):
+    """A parser of words. Where a standard stream is closed, argparse would print on another one, and it
+    ignores that one can't be written."""
+
+    def error(self, message: str) -> NoReturn:
+        if sys.stderr is None:
+            self.exit(REFUSED)
+        super().error(message)
+
+    def _print_message(self, message: str, file: Any = None) -> None:
+        if file is not None and file is sys.stderr:
+            show_error(message.rstrip("\n"))
+        else:
+            show(message.rstrip("\n"))
+            flush_output()
 
 
 def limit_of(word: str) -> int:
@@ -105,30 +159,35 @@ def limit_of(word: str) -> int:
 
 def parser() -> argparse.ArgumentParser:
     about = "Judges lists of Python requirements, and compares them. The answers are those of a proved library."
-    words = argparse.ArgumentParser(prog="fowlyore", description=about, epilog=STATUSES)
+    words = Parser(prog="fowlyore", description=about, epilog=STATUSES)
     words.add_argument("--version", action="version", version=f"fowlyore {__version__}")
     commands = words.add_subparsers(dest="command", metavar="COMMAND", required=True)
     add_check(commands)
     add_matrix(commands)
-    it = add(commands, "same", "print whether two lists require the same everywhere, or where they first differ", limit=True)
+    it = add(commands, "same", "print whether two lists require the same everywhere, or where they first differ")
     it.add_argument("left", metavar="OLD", help="a list")
     it.add_argument("right", metavar="NEW", help="another list")
-    it = add(commands, "conflicts", "print the lines of a list that contradict each other where they apply together", limit=True)
+    add_limit(it)
+    it = add(commands, "conflicts", "print the lines of a list that contradict each other where they apply together")
     it.add_argument("requirements", metavar="FILE", help="the list")
+    add_limit(it)
     it = add(commands, "normal", "print a list in its one normal form")
     it.add_argument("requirements", metavar="FILE", help="the list")
     return words
 
 
-def add(commands: Any, name: str, about: str, limit: bool = False) -> argparse.ArgumentParser:
+def add(commands: Any, name: str, about: str) -> argparse.ArgumentParser:
     it: argparse.ArgumentParser = commands.add_parser(name, help=about, description=f"{about[0].upper()}{about[1:]}.")
     of_group = "a dependency group, of pyproject.toml in addition, of a lock file in place of its default groups"
     of_group += "; may be repeated"
     it.add_argument("--group", action="append", default=[], metavar="NAME", help=of_group)
-    if limit:
-        of_limit = "how many cases a package may have, which are sets of its lines that apply together (%(default)s)"
-        it.add_argument("--limit", type=limit_of, default=LIMIT, metavar="N", help=of_limit)
     return it
+
+
+def add_limit(it: argparse.ArgumentParser, default: Optional[int] = LIMIT, without: str = f"{LIMIT}") -> None:
+    """Adds `--limit`; `without` says what happens without it."""
+    of_limit = f"how many cases a package may have, which are sets of its lines that apply together ({without})"
+    it.add_argument("--limit", type=limit_of, default=default, metavar="N", help=of_limit)
 
 
 def add_check(commands: Any) -> None:
@@ -145,10 +204,11 @@ def add_check(commands: Any) -> None:
 
 
 def add_matrix(commands: Any) -> None:
-    it = add(commands, "matrix", "print for each of some environments what check prints for it", limit=True)
+    it = add(commands, "matrix", "print for each of some environments what check prints for it")
     it.add_argument("requirements", metavar="FILE", help="the list")
     it.add_argument("environments", metavar="JSON", help="a file of a list of environments")
     add_candidates(it)
+    add_limit(it, None, f"none: where it has more than {LIMIT}, each environment is checked by itself")
     it.add_argument("--strict", action="store_true", help="status 4 where a row is none")
 
 
@@ -341,31 +401,35 @@ def complain_of_warnings() -> None:
     warnings.showwarning = show_warning
 
 
+def run(said: argparse.Namespace) -> int:
+    """Runs the command that the words ask for, and returns its exit status."""
+    if sum(getattr(said, it, None) == "-" for it in INPUTS) > 1:
+        complain("standard input (-) can be one input alone")
+        return REFUSED
+    with warnings.catch_warnings():
+        complain_of_warnings()
+        status = RUNS[said.command](said)
+    flush_output()
+    return status
+
+
 def main(words: Optional[List[str]] = None) -> int:
     """Runs a command, by default that of the process, and returns its exit status."""
     if words is None:
         Progress.is_wanted = True
         write_utf8()
-    said = parser().parse_args(words)
-    if sum(getattr(said, it, None) == "-" for it in INPUTS) > 1:
-        complain("standard input (-) can be one input alone")
-        return REFUSED
     try:
-        with warnings.catch_warnings():
-            complain_of_warnings()
-            status = RUNS[said.command](said)
-        if sys.stdout is not None:
-            sys.stdout.flush()
-        return status
+        return run(parser().parse_args(words))
     except InvalidInput as error:
         complain(str(error))
         return REFUSED
     except BrokenPipeError:
-        # (so that nothing is written to it when the interpreter ends)
-        os.dup2(os.open(os.devnull, os.O_WRONLY), sys.stdout.fileno())
+        discard(sys.stdout)
         return NOT_READ
     except OSError as error:
         complain(f"{error.filename}: {error.strerror}" if error.filename else str(error))
+        if error.filename == OUTPUT:
+            discard(sys.stdout)
         return NOT_READ
     except MemoryError:
         complain("memory ran out")

@@ -3,6 +3,7 @@
 import re
 from bisect import bisect_left, bisect_right
 from dataclasses import dataclass
+from operator import attrgetter
 from typing import Dict, Iterable, Iterator, List, NamedTuple, Optional, Sequence, Set, Tuple
 
 from . import _native
@@ -11,7 +12,7 @@ from .lists import (
     requirements_input, rows_checked, rows_of,
 )  # fmt: skip
 from .specifiers import InvalidSpecifier, Specifier, SpecifierSet
-from .version import InvalidVersion, Version
+from .version import Version
 
 __all__ = ["Explanation", "Line", "Refusal", "check_explained", "explain"]
 
@@ -19,8 +20,12 @@ __all__ = ["Explanation", "Line", "Refusal", "check_explained", "explain"]
 NAMED = 3
 # How many characters of lines one call is asked of, in which there are at most 16 MiB.
 BATCH = 1 << 21
+# At least as many characters as a package name takes in a call, with those around it.
+NAME_ROOM = 10
 # How many times more candidates a line is asked about in each round than in the one before.
 GROWTH = 8
+# The greatest number in a version.
+_GREATEST = (1 << 64) - 1
 # The name at the front of a requirement, and name and version on the line of a candidate.
 _NAME = re.compile(r"\s*([A-Za-z0-9](?:[A-Za-z0-9._-]*[A-Za-z0-9])?)")
 _CANDIDATE = re.compile(r"^[^\S\n]*([A-Za-z0-9._-]+)[^\S\n]+([^\s#]+)", re.M)
@@ -111,19 +116,36 @@ class _Asking(NamedTuple):
     line: Line
     rest: str
 
+    @property
+    def number(self) -> int:
+        """The line's number."""
+        return self.line.number
+
     def of(self, name: str) -> str:
         """The same requirement on another package, as a line."""
         return f"{name}{self.rest}\n"
 
+
+class _Offer(NamedTuple):
+    """Some lines, and the candidates that they are offered."""
+
+    lines: Sequence[_Asking]
+    versions: Sequence[Version]
+
     @property
-    def alias(self) -> str:
-        """A package that no other line requires."""
-        return f"line{self.line.number}"
+    def size(self) -> int:
+        """At least as many characters as are asked."""
+        texts = sum(len(it.rest) for it in self.lines) + sum(len(str(it)) for it in self.versions)
+        return texts + NAME_ROOM * (len(self.lines) + len(self.versions) + 2)
 
+    def lines_of(self, name: str) -> str:
+        """The lines as those of a package, with one that accepts all versions and lets pre-releases in: it
+        names the lowest of all versions."""
+        return "".join(it.of(name) for it in self.lines) + f"{name}>=0.dev0\n"
 
-def _admitting(name: str) -> str:
-    """A line that accepts all versions and lets pre-releases in: it names the lowest of all versions."""
-    return f"{name}>=0.dev0\n"
+    def candidates_of(self, name: str) -> str:
+        """The candidates as those of a package."""
+        return "".join(f"{name} {it}\n" for it in self.versions)
 
 
 @dataclass(frozen=True)
@@ -133,42 +155,34 @@ class _Question:
     environment: Input
     extras: Input
 
-    def rows(self, lines: str, candidates: str = "") -> Dict[str, Row]:
-        """The rows of `check`, by name."""
-        asked, offered = Input("requirements", lines.encode()), Input("candidates", candidates.encode())
-        rows = rows_of(answered(_native.check, asked, self.environment, offered, self.extras))
-        return {it.name: it for it in rows}
+    def outcomes(self, offers: Iterable[_Offer]) -> Iterator[Tuple[_Offer, Row]]:
+        """Each offer with its row: the greatest candidate that all of its lines accept, except for those that
+        don't apply. In a call each offer is made under a package name of its own."""
+        for batch in _batches(offers):
+            numbered = [(str(at), it) for at, it in enumerate(batch)]
+            asked = Input("requirements", "".join(it.lines_of(name) for name, it in numbered).encode())
+            offered = Input("candidates", "".join(it.candidates_of(name) for name, it in numbered).encode())
+            rows = rows_of(answered(_native.check, asked, self.environment, offered, self.extras))
+            by_name = {it.name: it for it in rows}
+            yield from ((it, by_name[name]) for name, it in numbered)
 
-    def accepting_none(self, asked: Iterable["_Offer"]) -> List[_Asking]:
-        """The lines that accept none of the candidates that they are offered: each line is tested under a
-        package name of its own, all of them at once. A line that doesn't apply accepts all."""
-        found: List[_Asking] = []
-        for batch in _batches(asked):
-            lines = "".join(it.of(it.alias) + _admitting(it.alias) for it, _ in batch)
-            rows = self.rows(lines, "".join(f"{it.alias} {version}\n" for it, versions in batch for version in versions))
-            found += (it for it, _ in batch if rows[it.alias].is_none)
-        return found
-
-    def taken_by_all(self, lines: List[_Asking], versions: Iterable[Version]) -> Optional[Version]:
-        """The greatest candidate that all of some lines accept, except for those that don't apply."""
-        asked = "".join(it.of("all") for it in lines) + _admitting("all")
-        return self.rows(asked, "".join(f"all {it}\n" for it in versions))["all"].version
-
-
-# A line, and the candidates that it is asked about.
-_Offer = Tuple[_Asking, Sequence[Version]]
+    def refusing(self, offers: Iterable[Tuple[_Asking, Sequence[Version]]]) -> Set[int]:
+        """The numbers of the lines that accept none of the candidates that each is offered. A line that
+        doesn't apply accepts all."""
+        each = (_Offer([line], versions) for line, versions in offers)
+        return {it.lines[0].number for it, row in self.outcomes(each) if row.is_none}
 
 
 def _batches(offers: Iterable[_Offer]) -> Iterator[List[_Offer]]:
-    """Lines in groups, each of which fits into one call."""
+    """Offers in groups, each of which fits into one call."""
     batch: List[_Offer] = []
     size = 0
-    for line, versions in offers:
-        more = len(line.rest) + len(line.alias) + sum(len(line.alias) + len(str(it)) for it in versions)
+    for it in offers:
+        more = it.size
         if size + more > BATCH and batch:
             yield batch
             batch, size = [], 0
-        batch.append((line, versions))
+        batch.append(it)
         size += more
     if batch:
         yield batch
@@ -184,11 +198,11 @@ def explain(
 ) -> List[Explanation]:
     """For each row of `check` that is `none`, by name, the reason; the arguments are those of `check`.
 
-    In addition to the library's call for `check` it makes for each such package with candidates at most four
-    calls over its own lines, one of them with all its candidates. Lines that refuse the three greatest
-    candidates are tested with others, all lines in one call, and those that refuse these with about eight
-    times as many, and so on. Only candidates within the bounds of a line's specifiers are tested: for
-    `foo==1.2` these are 1.2 and its local versions.
+    The time is about linear in lines and candidates. In addition to the library's call for `check` a few
+    calls are made over the lines of all such packages together: one for each of the three greatest
+    candidates, and one with all candidates. Lines that refuse these three are tested with a few others, of
+    which those within the bounds of a line's specifiers alone can be accepted: for `foo==1.2` these are 1.2
+    and its local versions.
 
     >>> for it in explain(["foo!=2.1", "foo>=1", "foo<2,!=1.5"], candidates={"foo": ["0.9", "1.5", "2.1"]}):
     ...     print(it)
@@ -222,8 +236,7 @@ def check_explained(
         return rows, []
     lines = _lines_of(inputs[0], names)
     versions = _versions_of(inputs[2].text.decode(), names)
-    question = _Question(inputs[1], inputs[3])
-    return rows, [_explanation(it, lines[it], versions[it], question) for it in names]
+    return rows, _explanations(lines, versions, _Question(inputs[1], inputs[3]))
 
 
 def _normal(name: str) -> str:
@@ -259,80 +272,186 @@ def _versions_of(text: str, names: List[str]) -> Dict[str, List[Version]]:
         if of_name is not None:
             version = Version(given)
             of_name.setdefault(str(version), version)
-    return {name: sorted(it.values(), reverse=True) for name, it in found.items()}
+    return {name: sorted(it.values(), key=attrgetter("_key"), reverse=True) for name, it in found.items()}
 
 
-def _explanation(name: str, lines: List[_Asking], versions: List[Version], question: _Question) -> Explanation:
-    if not versions:
-        return Explanation(name)
-    refusals = [(it, question.accepting_none((line, [it]) for line in lines)) for it in versions[:NAMED]]
-    without = _without_candidate([of_version for _, of_version in refusals], versions[NAMED:], question)
-    if without:
-        return Explanation(name, versions[0], len(versions), without)
-    told = tuple(Refusal(version, tuple(at.line for at in those)) for version, those in refusals if those)
-    return Explanation(name, versions[0], len(versions), (), told, question.taken_by_all(lines, versions))
-
-
-def _without_candidate(refusing: List[List[_Asking]], others: List[Version], question: _Question) -> Tuple[Line, ...]:
-    """The lines that refuse the greatest candidates and the others too."""
-    of_all = set(refusing[0]).intersection(*refusing[1:])
-    lines = [it for it in refusing[0] if it in of_all]
-    accepting = _accepting(lines, others[::-1], question)
-    return tuple(it.line for it in lines if it not in accepting)
-
-
-def _accepting(lines: List[_Asking], rising: List[Version], question: _Question) -> Set[_Asking]:
-    """The lines that accept some of the candidates. Each is tested with the greatest one within its bounds,
-    and if that is refused with more and more of those below."""
-    public = [Version(it.public) if "+" in str(it) else it for it in rising]
-    within = {it: _within(it, public) for it in lines}
-    found: Set[_Asking] = set()
-    number = 1
-    while within:
-        within = {it: those for it, those in within.items() if those}
-        refused = set(question.accepting_none((it, [rising[at] for at in those[-number:]]) for it, those in within.items()))
-        found.update(it for it in within if it not in refused)
-        within = {it: those[:-number] for it, those in within.items() if it in refused}
-        number *= GROWTH
+def _explanations(
+    lines: Dict[str, List[_Asking]], versions: Dict[str, List[Version]], question: _Question
+) -> List[Explanation]:
+    """The explanation of each package, by its lines and its candidates."""
+    refusing = [question.refusing(_of_rank(it, lines, versions)) for it in range(NAMED)]
+    without = _without_candidate(lines, versions, refusing, question)
+    open_names = [it for it in lines if versions[it] and not without[it]]
+    offers = (_Offer(lines[it], versions[it]) for it in open_names)
+    accepted = dict(zip(open_names, (row.version for _, row in question.outcomes(offers))))
+    found = []
+    for name, of_name in versions.items():
+        if not of_name:
+            found.append(Explanation(name))
+        elif without[name]:
+            found.append(Explanation(name, of_name[0], len(of_name), without[name]))
+        else:
+            refusals = tuple(_refusals(lines[name], of_name, refusing))
+            found.append(Explanation(name, of_name[0], len(of_name), (), refusals, accepted[name]))
     return found
 
 
-def _within(line: _Asking, public: List[Version]) -> range:
-    """The indices of those of some candidates that the line's specifiers may accept. The candidates are given
-    by their public versions, rising, since what a specifier accepts of these is decided by its bounds."""
+def _of_rank(
+    rank: int, lines: Dict[str, List[_Asking]], versions: Dict[str, List[Version]]
+) -> Iterator[Tuple[_Asking, Sequence[Version]]]:
+    """Each line with its package's candidate of a rank, from 0 for the greatest, where there is one."""
+    for name, of_name in lines.items():
+        if rank < len(versions[name]):
+            yield from ((it, versions[name][rank : rank + 1]) for it in of_name)
+
+
+def _refusals(lines: List[_Asking], versions: List[Version], refusing: List[Set[int]]) -> Iterator[Refusal]:
+    """The greatest candidates that some line refuses."""
+    for version, numbers in zip(versions, refusing):
+        those = tuple(it.line for it in lines if it.number in numbers)
+        if those:
+            yield Refusal(version, those)
+
+
+def _without_candidate(
+    lines: Dict[str, List[_Asking]],
+    versions: Dict[str, List[Version]],
+    refusing: List[Set[int]],
+    question: _Question,
+) -> Dict[str, Tuple[Line, ...]]:
+    """For each package the lines that refuse the greatest candidates and the others too."""
+    refused: Dict[str, List[_Asking]] = {}
+    left: Dict[_Asking, List[_Left]] = {}
+    for name, of_name in lines.items():
+        of_ranks = refusing[: len(versions[name])]
+        refused[name] = [it for it in of_name if all(it.number in those for those in of_ranks)]
+        kinds = _kinds(versions[name][: NAMED - 1 : -1]) if refused[name] else []
+        for line in refused[name] if kinds else ():
+            specifiers = _specifiers_of(line)
+            left[line] = [_Left(it, _within(specifiers, it)) for it in kinds]
+    accepting = _accepting(left, question)
+    return {name: tuple(it.line for it in of if it.number not in accepting) for name, of in refused.items()}
+
+
+def _accepting(left: Dict[_Asking, List["_Left"]], question: _Question) -> Set[int]:
+    """The numbers of the lines that accept some of the candidates that are left to each. A line is tested
+    with the greatest one of each kind, and if these are refused with more and more of those below."""
+    found: Set[int] = set()
+    count = 1
+    while left:
+        each = ((line, [at for it in those for at in it.greatest(count)]) for line, those in left.items())
+        offers = [(line, versions) for line, versions in each if versions]
+        refused = question.refusing(offers)
+        found.update(line.number for line, _ in offers if line.number not in refused)
+        left = {line: left[line] for line, _ in offers if line.number in refused}
+        count *= GROWTH
+    return found
+
+
+class _Kind(NamedTuple):
+    """Candidates of one package, rising, which specifiers accept by the same rules: all or none of them are
+    pre-releases (or developmental releases), and all or none post-releases. `public` has them without their
+    local parts, of which most specifiers see nothing; so it rises too."""
+
+    is_prerelease: bool
+    is_postrelease: bool
+    versions: List[Version]
+    public: List[Version]
+
+
+def _kinds(rising: Sequence[Version]) -> List[_Kind]:
+    """Candidates by their kinds."""
+    found: Dict[Tuple[bool, bool], _Kind] = {}
+    for it in rising:
+        key = it.is_prerelease, it.is_postrelease
+        kind = found.setdefault(key, _Kind(*key, [], []))
+        kind.versions.append(it)
+        kind.public.append(Version(it.public) if "+" in str(it) else it)
+    return list(found.values())
+
+
+class _Left:
+    """The candidates of a kind that a line may accept, as ranges of indices that rise, less those that were
+    taken."""
+
+    def __init__(self, kind: _Kind, ranges: List[range]) -> None:
+        self._kind, self._ranges = kind, ranges
+
+    def greatest(self, count: int) -> List[Version]:
+        """Takes some of the greatest ones."""
+        taken: List[Version] = []
+        while self._ranges and len(taken) < count:
+            last = self._ranges.pop()
+            begin = max(last.start, last.stop - (count - len(taken)))
+            taken += self._kind.versions[begin : last.stop]
+            if begin > last.start:
+                self._ranges.append(range(last.start, begin))
+        return taken
+
+
+def _specifiers_of(line: _Asking) -> List[Specifier]:
+    """The specifiers of a line, and none if they can't be read."""
     given = _SPECIFIERS.match(line.rest)
     try:
-        spans = [_span(it, public) for it in SpecifierSet(given[1] if given else "")]
+        return list(SpecifierSet(given[1] if given else ""))
     except InvalidSpecifier:
-        spans = []
-    return range(max((it.start for it in spans), default=0), min((it.stop for it in spans), default=len(public)))
+        return []
 
 
-def _span(specifier: Specifier, public: List[Version]) -> range:
-    """The indices of the versions within a specifier's bounds (PEP 440, Version specifiers): what `==` and
-    `===` accept has the public version of theirs, what `~=` and a star accept begins with their release. `!=`
-    has no bounds."""
-    low, high = 0, len(public)
-    operator, named = specifier.operator, Version(Version(specifier._without_star()).public)
-    if operator == "!=":
-        return range(low, high)
+def _within(specifiers: Sequence[Specifier], kind: _Kind) -> List[range]:
+    """The indices of the candidates of a kind that the specifiers may accept, as ranges that rise."""
+    low, high = 0, len(kind.versions)
+    holes = []
+    for it in specifiers:
+        span = _span(it, kind)
+        if it.operator == "!=":
+            holes.append(span)
+        else:
+            low, high = max(low, span.start), min(high, span.stop)
+    found = []
+    for hole in sorted(holes, key=attrgetter("start")):
+        if low < min(hole.start, high):
+            found.append(range(low, min(hole.start, high)))
+        low = max(low, hole.stop)
+    return [*found, range(low, high)] if low < high else found
+
+
+def _span(specifier: Specifier, kind: _Kind) -> range:
+    """The indices of the candidates of a kind that a specifier accepts, or that it refuses if its operator is
+    `!=` (PEP 440, Version specifiers). What `===` accepts is in its span."""
+    operator, named, public = specifier.operator, Version(specifier._without_star()), kind.public
     if specifier.version.endswith(".*"):
         return range(bisect_left(public, Version(f"{named}.dev0")), _end_of(named.epoch, named.release, public))
-    if operator not in ("<", "<="):
-        low = bisect_left(public, named)
+    if operator in ("==", "!=", "==="):
+        equal = kind.versions if operator == "===" or named.local else public
+        return range(bisect_left(equal, named), bisect_right(equal, named))
     if operator == "~=":
-        high = _end_of(named.epoch, named.release[:-1], public)
-    elif operator not in (">", ">="):
-        high = bisect_right(public, named)
-    return range(low, high)
+        return range(bisect_left(public, named), _end_of(named.epoch, named.release[:-1], public))
+    if operator == ">=":
+        return range(bisect_left(public, named), len(public))
+    if operator == "<=":
+        return range(0, bisect_right(public, named))
+    return _exclusive_span(operator, named, kind)
+
+
+def _exclusive_span(operator: str, named: Version, kind: _Kind) -> range:
+    """The span of `<`, which accepts no pre-release of a release that it names, unless that is one; or of
+    `>`, which accepts no post-release of it, unless it names one (PEP 440, Exclusive ordered comparison)."""
+    if operator == "<":
+        is_whole = kind.is_prerelease and not named.is_prerelease
+        end = Version(f"{named.base_version}.dev0") if is_whole else named
+        return range(0, bisect_left(kind.public, end))
+    is_whole = kind.is_postrelease and not named.is_postrelease
+    last = Version(f"{named.base_version}.post{_GREATEST}") if is_whole else named
+    return range(bisect_right(kind.public, last), len(kind.public))
 
 
 def _end_of(epoch: int, release: Sequence[int], public: List[Version]) -> int:
     """The index after the versions whose release begins with some numbers, or after all versions if none can
     be above these."""
     *front, last = release
-    try:
-        above = Version(f"{epoch}!{'.'.join(map(str, [*front, last + 1]))}.dev0")
-    except InvalidVersion:
-        return len(public)
-    return bisect_left(public, above)
+    if last < _GREATEST:
+        return bisect_left(public, Version(f"{epoch}!{'.'.join(map(str, [*front, last + 1]))}.dev0"))
+    if front:
+        return _end_of(epoch, front, public)
+    return len(public) if epoch == _GREATEST else bisect_left(public, Version(f"{epoch + 1}!0.dev0"))

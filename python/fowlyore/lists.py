@@ -9,7 +9,7 @@ import operator
 import os
 import re
 from dataclasses import dataclass, field
-from typing import Any, Callable, Iterable, List, Mapping, Optional, Sequence, Set, Tuple, TypeVar, Union
+from typing import Any, Callable, Iterable, Iterator, List, Mapping, Optional, Sequence, Set, Tuple, TypeVar, Union
 
 from . import _native
 from .errors import Refused, characters, columns
@@ -25,7 +25,7 @@ __all__ = [
     "Comparison", "Conflict", "InvalidInput", "Row", "check", "conflicts", "matrix", "matrix_texts", "normal", "same",
 ]  # fmt: skip
 
-# How many cases a package may have where no limit is named, and the greatest limit, as in `reqs`.
+# How many cases a package may have in a table where no limit is named, and the greatest limit, as in `reqs`.
 LIMIT, GREATEST_LIMIT = 4096, 1_000_000
 Requirements = Union[str, bytes, "os.PathLike[str]", Listing, Iterable[Union[str, Requirement]]]
 Environment = Union[None, str, bytes, "os.PathLike[str]", Mapping[str, str]]
@@ -49,6 +49,10 @@ _WITH_URL = re.compile(rb"@[^@;\n]*(?<!\s);")
 # A candidate's line that the library reads as one name and one version, or refuses.
 _CANDIDATE = re.compile(r"[^ #\n][^#\n]*")
 _WHITE = " \t\n\r\f"
+# How the library refuses a package for the number of its cases, once it has read all inputs.
+_TOO_MANY_CASES = f"requirements: more than {LIMIT} cases for "
+# What stands between the elements of a JSON array.
+_BETWEEN = re.compile(r"[ \t\n\r,]*")
 # What stands before the reason in the library's refusal of a line, of which a part may be told.
 _OF_LINE = re.compile(r"[a-z]+: line [0-9]+(?:(, byte [0-9]+, length [0-9]+)\n|: )")
 
@@ -430,7 +434,7 @@ def matrix(
     environments: Environments,
     candidates: Candidates = None,
     extras: Extras = (),
-    limit: int = LIMIT,
+    limit: Optional[int] = None,
     *,
     ignore_requires_python: bool = False,
 ) -> List[List[Row]]:
@@ -438,8 +442,13 @@ def matrix(
     running interpreter. The versions of a mapping are read as `Marker.evaluate` says, those of a text or a
     file as they are written.
 
-    A package may have `limit` cases, which are sets of its lines that apply together. Raises `InvalidInput`
-    for an input that is refused, and for the first package by name with more cases.
+    The rows are read off one table of the cases of each package, which are sets of its lines that apply
+    together. Where a package has more than 4096 of them, or rows of a package `env` can't be told from the
+    lines between environments, `check` is called for each environment, which takes longer. With a `limit`,
+    from 0 to 1,000,000, a package with more cases is refused: who names one wants the table or none.
+
+    Raises `InvalidInput` for an input that is refused, and for the first package by name with more cases than
+    a given `limit`.
 
     >>> from fowlyore import default_environment
     >>> linux = {**default_environment(), "sys_platform": "linux"}
@@ -458,13 +467,14 @@ def matrix_texts(
     environments: Environments,
     candidates: Candidates = None,
     extras: Extras = (),
-    limit: int = LIMIT,
+    limit: Optional[int] = None,
     *,
     ignore_requires_python: bool = False,
 ) -> List[str]:
     """The rows of `matrix` as one text for each environment, which is what `reqs check` prints for it.
 
-    For large answers this needs a small part of the time and of the memory of `matrix`.
+    For large answers this needs a small part of the time and of the memory of `matrix`. A `limit`, and having
+    none, means what it does there.
 
     >>> environment = environment_json(completed(None)).decode()
     >>> matrix_texts("b>=1\\na", f"[{environment}, {environment}]", {"a": ["1"], "b": []})
@@ -495,15 +505,36 @@ def _rows_of_names(text: str, names: Set[str]) -> str:
     return "".join(f"{it}\n" for it in _native.lines_of(text) if it.split(" ", 1)[0].split("[", 1)[0] in names)
 
 
-def _texts_of_matrix(inputs: Tuple[Input, Input, Input, Input], limit: int) -> List[str]:
-    """The rows of each environment, as one text."""
-    texts = texts_of(answered(_native.matrix, *inputs, limit=limit))
-    listed = json.loads(inputs[1].text)
-    if len(texts) == len(listed):
-        return texts
+def _texts_of_matrix(inputs: Tuple[Input, Input, Input, Input], limit: Optional[int]) -> List[str]:
+    """The rows of each environment, as one text; without a limit also of packages that have too many cases
+    for a table."""
+    try:
+        answer = answered(_native.matrix, *inputs, limit=LIMIT if limit is None else limit)
+    except InvalidInput as error:
+        if limit is not None or not error.message.startswith(_TOO_MANY_CASES):
+            raise
+        return _texts_of_each(inputs)
+    texts = texts_of(answer)
     # (a row of the package `env` may look like the line before an environment's rows)
-    each = (Input("environments", json.dumps(it).encode()) for it in listed)
+    return texts if len(texts) == len(json.loads(inputs[1].text)) else _texts_of_each(inputs)
+
+
+def _texts_of_each(inputs: Tuple[Input, Input, Input, Input]) -> List[str]:
+    """The rows of each environment, as one text, by a call for each; the inputs are ones that `matrix` has
+    read."""
+    each = (Input("environments", it) for it in _elements(inputs[1].text.decode()))
     return [answered(_native.check, inputs[0], it, *inputs[2:]) for it in each]
+
+
+def _elements(array: str) -> Iterator[bytes]:
+    """The elements of a JSON array that the library has read, each as its text."""
+    decoder, at = json.JSONDecoder(), array.index("[") + 1
+    while True:
+        at = _BETWEEN.match(array, at).end()  # type: ignore[union-attr]
+        if array[at] == "]":
+            return
+        begin, (_, at) = at, decoder.raw_decode(array, at)
+        yield array[begin:at].encode()
 
 
 def texts_of(answer: str) -> List[str]:

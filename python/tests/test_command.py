@@ -90,6 +90,16 @@ class Commands(unittest.TestCase):
         status, out, err = run("conflicts", path, "--limit", "0")
         self.assertEqual((status, out, err), (2, "", f"fowlyore: {path}: more than 0 cases for colorama\n"))
 
+    def test_a_table_past_the_limit(self):
+        """Each environment is checked by itself, unless a limit is named."""
+        with tempfile.TemporaryDirectory() as folder:
+            path, candidates = pathlib.Path(folder, "requirements.txt"), pathlib.Path(folder, "candidates.txt")
+            path.write_text("".join(f"foo>={it} ; extra == 'x{it}'\n" for it in range(13)) + "bar\n")
+            candidates.write_text("foo 3\nfoo 2\n")
+            words = ["matrix", path, FIRST / "environments.json", "--candidates", candidates, "--extra", "x3"]
+            self.assertEqual(run(*words), (0, "env 1\nbar none\nfoo 3\nenv 2\nbar none\nfoo 3\n", ""))
+            self.assertEqual(run(*words, "--limit", "4096"), (2, "", f"fowlyore: {path}: more than 4096 cases for foo\n"))
+
     def test_standard_input_twice(self):
         for words in (
             ("same", "-", "-"),
@@ -143,12 +153,26 @@ class Process(unittest.TestCase):
             self.assertEqual((ran.returncode, ran.stdout), (2, b""), it)
             self.assertIn("\u00e9", ran.stderr.decode(), it)
 
+    def test_an_empty_standard_input(self):
+        for words in (["check", "-"], ["normal", "-"], ["conflicts", "-"]):
+            ran = self.run_module(*words, stdin=subprocess.DEVNULL)
+            self.assertEqual((ran.returncode, ran.stdout, ran.stderr), (0, b"", b""), words)
+
     @unittest.skipUnless(os.path.exists("/dev/full"), "there is no /dev/full")
     def test_a_full_disk(self):
-        with open("/dev/full", "wb") as full:
-            ran = self.run_module("normal", "-", input=b"foo\n", stdout=full)
-        self.assertEqual(ran.returncode, 3)
-        self.assertIn(b"No space left", ran.stderr)
+        """Whether Python keeps what is printed, or writes it at once."""
+        said = b"fowlyore: standard output: No space left on device\n"
+        for unbuffered in ("", "1"):
+            environment = {**os.environ, "PYTHONUNBUFFERED": unbuffered}
+            for words in (["normal", "-"], ["--help"], ["--version"]):
+                with open("/dev/full", "wb") as full:
+                    ran = self.run_module(*words, input=b"foo\n", stdout=full, env=environment)
+                self.assertEqual((ran.returncode, ran.stderr), (3, said), words)
+            for words, status in ((["normal", "/no/such/file"], 3), (["normal", "-"], 2), (["chekc"], 2)):
+                with open("/dev/full", "wb") as full:
+                    command = [sys.executable, "-m", "fowlyore", *words]
+                    ran = subprocess.run(command, input=b"foo=\n", stdout=subprocess.PIPE, stderr=full, env=environment)
+                self.assertEqual((ran.returncode, ran.stdout), (status, b""), words)
 
 
 @unittest.skipUnless(os.name == "posix", "streams are closed by a shell")
@@ -185,8 +209,24 @@ class Closed(unittest.TestCase):
             self.assertEqual(self.run_without("1", *words), (3, "", "fowlyore: standard output is closed\n"), words)
             self.assertEqual(self.run_without("01", *words), (3, "", "fowlyore: standard output is closed\n"), words)
         self.assertEqual(self.run_without("1", "conflicts", self.REQUIREMENTS), (0, "", ""))
+        for words in (["--help"], ["check", "--help"], ["--version"]):
+            self.assertEqual(self.run_without("1", *words), (3, "", "fowlyore: standard output is closed\n"), words)
 
     def test_standard_error(self):
         """Nothing else is written to in its place."""
-        for words, status in ((["normal", "/no/such/file"], 3), (["conflicts", self.CANDIDATES], 2), (["same", "-", "-"], 2)):
+        for words, status in (
+            (["normal", "/no/such/file"], 3), (["conflicts", self.CANDIDATES], 2), (["same", "-", "-"], 2),
+            (["chekc"], 2), (["check"], 2),
+        ):  # fmt: skip
             self.assertEqual(self.run_without("2", *words), (status, "", ""), words)
+
+    def test_streams_of_the_other_direction(self):
+        """Standard input that can only be written, and standard output that can only be read."""
+        words = [sys.executable, "-m", "fowlyore", "normal"]
+        with open(os.devnull, "wb") as written:
+            ran = subprocess.run([*words, "-"], stdin=written, stdout=subprocess.PIPE, stderr=subprocess.PIPE)
+        said = b"fowlyore: standard input: Bad file descriptor\n"
+        self.assertEqual((ran.returncode, ran.stdout, ran.stderr), (3, b"", said))
+        with open(os.devnull, "rb") as read:
+            ran = subprocess.run([*words, self.COMMANDS[-1][-1]], stdout=read, stderr=subprocess.PIPE)
+        self.assertEqual((ran.returncode, ran.stderr), (3, said.replace(b"input", b"output")))

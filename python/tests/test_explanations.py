@@ -8,8 +8,10 @@ import unittest
 from unittest import mock
 
 import fowlyore
-from fowlyore import Requirement, Version, _native, check
-from fowlyore.explanations import Explanation, Line, Refusal, _Asking, _within, check_explained, explain
+from fowlyore import Requirement, SpecifierSet, Version, _native, check
+from fowlyore.explanations import (
+    Explanation, Line, Refusal, _Asking, _kinds, _specifiers_of, _within, check_explained, explain,
+)  # fmt: skip
 from fowlyore.lists import requirements_input
 
 ENVIRONMENT = {"os_name": "posix"}
@@ -128,6 +130,41 @@ class Calls(unittest.TestCase):
             whole = len("\n".join(lines)) + sum(len(f"a {it}\n") for it in candidates)
             self.assertLessEqual(sum(sizes), 30 * whole, form)
 
+    def test_lines_that_exclude_each(self):
+        """Candidates that lie between a line's bounds, and that it accepts none of, are not asked about."""
+        count = 400
+        forms = [">=1,<2,!=1.*", "~=1.0,!=1.*,!=0", "!=1.*", ">1,<1.1", ">1", "<1.1,!=1.0.*", "<1.0.post1,!=1.0"]
+        kinds = {"": "1.{}", "<1": "1.0.dev{}", ">1": "1.0.post{}", ">1.0rc1": "1.0.post{}"}
+        kinds["<1.0.post1"] = "1.0.post1.dev{}"
+        for front, kind in kinds.items():
+            candidates = [kind.format(it) for it in range(1, count + 1)] + ["9", "8", "7"]
+            rests = [f"{front or form},!=7,!=8,!=9" for form in (forms if not front else [front])]
+            lines = [f"a{rest},!={number + count}" for number in range(100) for rest in rests]
+            found, sizes = self.asked(lines, ENVIRONMENT, {"a": candidates})
+            accepting = {it for it in rests if any(SpecifierSet(it).filter(candidates, prereleases=True))}
+            rest_of = [it[1:].rsplit(",", 1)[0] for it in lines]
+            wanted = [number for number, it in enumerate(rest_of, 1) if it not in accepting]
+            self.assertEqual([it.number for it in found[0].lines_without_candidate], wanted, front)
+            whole = len("\n".join(lines)) + sum(len(f"a {it}\n") for it in candidates)
+            self.assertLessEqual(sum(sizes), 30 * whole, front)
+
+    def test_many_packages(self):
+        """They are asked about together, and each is told what it would be alone."""
+        names = [f"p{it:03}" for it in range(100)]
+        lines = [f"{name}{rest}" for name in names for rest in ("!=4", "<4", "!=3,!=2,!=1", ">=1")]
+        candidates = {name: ["1", "2", "3", "4"][number % 5 :] for number, name in enumerate(names)}
+        found, sizes = self.asked(lines, ENVIRONMENT, candidates)
+        self.assertEqual([it.name for it in found], names)
+        self.assertLessEqual(len(sizes), 1 + 3 + 1 + 1)
+        batches = mock.patch.object(fowlyore.explanations, "BATCH", 400)
+        with batches, mock.patch.object(_native, "check", side_effect=_native.check) as calls:
+            self.assertEqual(explain(lines, ENVIRONMENT, candidates), found)
+        asked = [len(it.args[0]) + len(it.args[2]) for it in calls.call_args_list[1:]]
+        self.assertLessEqual(max(asked), 400)
+        for number, it in enumerate(found[:10]):
+            others = [line if 4 * number <= at < 4 * number + 4 else "" for at, line in enumerate(lines)]
+            self.assertEqual(explain(others, ENVIRONMENT, candidates), [it])
+
     def test_lines_that_accept_one(self):
         """Rounds of calls, in each of which all lines are asked that accepted nothing before."""
         count = 400
@@ -173,12 +210,33 @@ class Bounds(unittest.TestCase):
             self.assertEqual([it.number for it in found.lines_without_candidate], wanted, offered)
             self.assertTrue(wanted)
 
+    def within(self, rest, kind):
+        return _within(_specifiers_of(_Asking(Line(1, f"a{rest}"), rest)), kind)
+
     def test_lines_without_bounds(self):
         """They may accept each candidate, also what can't be read as specifiers."""
-        public = [Version(str(it)) for it in range(9)]
-        for rest in ("", " [x]", "[x] ; os_name == 'nt'", "!=3", " (!=1.*, !=2) # >1", "@ https://example.org", "=1", "~=1"):
-            self.assertEqual(_within(_Asking(Line(1, f"a{rest}"), rest), public), range(9), rest)
-        self.assertEqual(_within(_Asking(Line(1, "a"), " [x,y] (>2 ,<= 5.0) ; os_name == 'nt'  # <1"), public), range(2, 6))
+        (kind,) = _kinds([Version(str(it)) for it in range(9)])
+        for rest in ("", " [x]", "[x] ; os_name == 'nt'", "@ https://example.org", "=1", "~=1"):
+            self.assertEqual(self.within(rest, kind), [range(9)], rest)
+        self.assertEqual(self.within(" [x,y] (>2 ,<= 5.0) ; os_name == 'nt'  # <1", kind), [range(3, 6)])
+        several = [range(1), range(3, 5), range(6, 9)]
+        self.assertEqual(self.within(" (!=1.*, !=2,!=5,!=5.0) # >1", kind), several)
+
+    def test_what_is_within(self):
+        """The candidates of each kind that are accepted, each, and no others but beside `===`."""
+        choose = random.Random(8)
+        rising = sorted({str(it): it for it in map(Version, self.OFFERED)}.values())
+        valid = [it for it in self.NAMED if it != "~=1"]
+        lists = valid + [",".join(filter(None, choose.sample(valid, 3))) for _ in range(300)]
+        excluded = [f"!={it}" for it in (*VERSIONS, *OTHERS, "1.*")]
+        lists += [",".join(choose.sample(excluded, 6)) for _ in range(30)]
+        for rest in lists:
+            parts = [(kind, part) for kind in _kinds(rising) for part in self.within(rest, kind)]
+            offered = {kind.versions[at] for kind, part in parts for at in part}
+            accepted = set(SpecifierSet(rest).filter(rising, prereleases=True))
+            self.assertLessEqual(accepted, offered, rest)
+            if "===" not in rest:
+                self.assertEqual(offered, accepted, rest)
 
     def accepts_none(self, line, offered):
         (row,) = check([line, "a>=0.dev0"], ENVIRONMENT, {"a": offered})

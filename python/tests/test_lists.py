@@ -3,6 +3,7 @@
 import json
 import os
 import pathlib
+import random
 import tempfile
 import unittest
 
@@ -88,6 +89,52 @@ class Answers(unittest.TestCase):
         for versions, wanted in ((["1", "2"], ["env 2\nf none\n", "env 1\n"]), (["1.0"], ["env 1.0\nf none\n", "env 1.0\n"])):
             self.assertEqual(fowlyore.matrix_texts(lines, environments, {"env": versions}), wanted)
             self.assertEqual([printed(it) for it in fowlyore.matrix(lines, environments, {"env": versions})], wanted)
+
+    def test_matrix_past_the_limit(self):
+        """A package with too many cases for a table, next to others, is answered as by `check`."""
+        choose = random.Random(4)
+        many = [f"Many>={it % 3} ; extra == 'x{it}'" for it in range(13)]
+        places = ["os_name == 'nt'", "python_version < '3.8'", "extra == 'x1'", "'3' in platform_release"]
+        for _ in range(25):
+            lines = [*many, *choose.sample(["env", "env<2", "a[x]>=1", "a==2", "b @ https://e.org/b", "c!=1"], 3)]
+            lines = [it if " ; " in it or choose.random() < 0.5 else f"{it} ; {choose.choice(places)}" for it in lines]
+            candidates = [(name, str(it)) for name in ("many", "env", "a", "c") for it in range(choose.randrange(4))]
+            environments = [self.environment(choose) for _ in range(choose.randrange(4))]
+            given = f" [\n{' , '.join(map(json.dumps, environments))}\t] "
+            extras = [f"x{it}" for it in choose.sample(range(13), 2)]
+            wanted = [fowlyore.check(lines, json.dumps(it), candidates, extras) for it in environments]
+            self.assertEqual(fowlyore.matrix(lines, given, candidates, extras), wanted, lines)
+            self.assertEqual(fowlyore.matrix_texts(lines, given, candidates, extras), list(map(printed, wanted)))
+            for call in (fowlyore.matrix, fowlyore.matrix_texts):
+                with self.assertRaisesRegex(fowlyore.InvalidInput, "^requirements: more than 4096 cases for many$"):
+                    call(lines, given, candidates, extras, limit=4096)
+
+    @staticmethod
+    def environment(choose):
+        """Some values, and members that no marker sees."""
+        full = choose.choice(["3.7.1", "3.11.7"])
+        values = {**fowlyore.default_environment(), "python_full_version": full, "python_version": full[:-2]}
+        values.update(os_name=choose.choice(["nt", "posix"]), platform_release=choose.choice(['", "[{', "\\", "3\u00e9"]))
+        return {**values, "more": [{"]": [1, {}]}, None]}
+
+    def test_matrix_past_the_limit_of_what_is_read(self):
+        """With constraints, which ask for nothing, and other faults, which stay."""
+        environments = json.loads((EXAMPLES / "first" / "environments.json").read_text())
+        with tempfile.TemporaryDirectory() as folder:
+            path = pathlib.Path(folder, "list.txt")
+            many = "".join(f"many>=0.{it} ; extra == 'x{it}'\n" for it in range(13))
+            path.write_text(f"-c pins.txt\n{many}a\n")
+            path.with_name("pins.txt").write_text("a<2\nz==1\nmany<0.9\n")
+            listing = fowlyore.read(path)
+            candidates = {"a": ["1", "2"], "many": ["0.8", "0.9"], "z": ["1"]}
+            answers = fowlyore.matrix(listing, environments, candidates, ["x3", "x12"])
+            self.assertEqual([printed(it) for it in answers], ["a 1\nmany none\n"] * 2)
+            self.assertEqual(fowlyore.matrix(listing, [], candidates), [])
+            with self.assertRaisesRegex(fowlyore.InvalidInput, "list.txt: more than 4096 cases for many$"):
+                fowlyore.matrix(listing, environments, candidates, limit=4096)
+            for given in (("a=1", environments, ""), (many, [{}], ""), (many, environments, "a"), (many, environments, "", "-")):
+                with self.assertRaises(fowlyore.InvalidInput):
+                    fowlyore.matrix(*given)
 
     def test_matrix_texts(self):
         folder = EXAMPLES / "matrix"
@@ -201,7 +248,7 @@ class Refusals(unittest.TestCase):
                 self.assertEqual(self.refused(call, limit).input, "limit", limit)
             call(1_000_000)
             self.assertIn("more than 0 cases", str(self.refused(call, 0)))
-            for limit in ("5", 5.0, None):
+            for limit in ("5", 5.0):
                 with self.assertRaises(TypeError):
                     call(limit)
 

@@ -1,22 +1,30 @@
 //! Links the proved library. `REQS_LIB_DIR` names the folder of `libreqs.a`; the default is the repository's
-//! own.
+//! own. Where there is no such file the crate is built all the same, as its documentation and its package
+//! are, but no program with it can be linked (`src/absent.rs`).
 
 use std::env;
 use std::path::PathBuf;
 
 fn main() {
     println!("cargo:rerun-if-env-changed=REQS_LIB_DIR");
+    println!("cargo:rustc-check-cfg=cfg(reqs_absent)");
     let folder = env::var_os("REQS_LIB_DIR").map_or_else(built_here, PathBuf::from);
     let archive = folder.join("libreqs.a");
-    if !archive.is_file() {
-        panic!(
-            "there is no {}: ./build reqs_c makes it, or REQS_LIB_DIR names its folder",
+    println!("cargo:rerun-if-changed={}", archive.display());
+    if archive.is_file() {
+        println!("cargo:rustc-link-search=native={}", folder.display());
+        println!("cargo:rustc-link-lib=static=reqs");
+        return;
+    }
+    println!("cargo:rustc-cfg=reqs_absent");
+    // (docs.rs builds the documentation alone)
+    if env::var_os("DOCS_RS").is_none() {
+        println!(
+            "cargo:warning=there is no {}, so that no program with fowlyore can be linked: ./build reqs_c makes \
+             it, or REQS_LIB_DIR names its folder",
             archive.display()
         );
     }
-    println!("cargo:rerun-if-changed={}", archive.display());
-    println!("cargo:rustc-link-search=native={}", folder.display());
-    println!("cargo:rustc-link-lib=static=reqs");
 }
 
 /// The folder in which `./build reqs_c` puts the library.

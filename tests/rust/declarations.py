@@ -50,7 +50,7 @@ def functions_of_header():
 
 def functions_of_crate():
     """The same of what the crate declares."""
-    block = re.search(r'extern "C" \{(.*?)^\}', NATIVE, flags=re.S | re.M)[1]
+    block = re.search(r'^extern "C" \{(.*?)^\}', NATIVE, flags=re.S | re.M)[1]
     found = {}
     for name, words, result in re.findall(r"fn (\w+)\(([^)]*)\)\s*->\s*(\w+);", block):
         arguments = [it.partition(":")[2].strip() for it in words.split(",") if it.strip()]

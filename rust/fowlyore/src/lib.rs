@@ -29,10 +29,15 @@
 //! is_shared::<fowlyore::VersionSpecifiers>();
 //! is_shared::<fowlyore::Requirement>();
 //! is_shared::<fowlyore::MarkerTree>();
-//! is_shared::<(fowlyore::Refused, fowlyore::Same)>();
+//! is_shared::<(fowlyore::Refused, fowlyore::Row, fowlyore::Conflict, fowlyore::Same)>();
 //! ```
 #![warn(missing_docs)]
 
+#[cfg(reqs_absent)]
+mod absent;
+mod answers;
+mod elements;
+mod grammar;
 mod kept;
 mod lists;
 mod marker;
@@ -42,7 +47,10 @@ mod requirement;
 mod specifiers;
 mod version;
 
-pub use lists::{check, conflicts, matrix, normal, same, Same, LIMIT};
+pub use answers::{Conflict, Outcome, Row, Same};
+pub use lists::{
+    check, check_text, conflicts, conflicts_text, matrix, matrix_text, normal, same, LIMIT,
+};
 pub use marker::MarkerTree;
 pub use refused::Refused;
 pub use requirement::Requirement;

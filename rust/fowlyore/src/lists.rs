@@ -1,36 +1,27 @@
 //! Lists of requirements: the five commands of the program `reqs`, over texts.
 
-use crate::{native, Refused};
+use crate::elements::elements;
+use crate::{grammar, native, Conflict, Refused, Row, Same};
 
 /// The default limit on the cases of a package.
 pub const LIMIT: u64 = 4096;
 
-/// Whether two lists require the same.
-#[derive(Clone, Debug, PartialEq, Eq, Hash)]
-pub enum Same {
-    /// They require the same of every package, whatever the truth of their markers is.
-    Yes,
-    /// They require different things: the first package by name that differs, and a marker that holds exactly
-    /// where its first difference is, or `all environments`.
-    No {
-        /// The package's name.
-        package: String,
-        /// Where it differs.
-        marker: String,
-    },
-}
-
-/// What `reqs check` prints: for each package that an applicable line requires, its extras and the highest
-/// candidate that all these lines accept.
+/// For each package that an applicable line requires, by name, its extras and the highest candidate that all
+/// these lines accept.
 ///
 /// ```
+/// use fowlyore::{check, check_text, Outcome};
+///
 /// let environment = br#"{"implementation_name": "cpython", "implementation_version": "3.11.7", "os_name": "posix",
 ///     "platform_machine": "x86_64", "platform_python_implementation": "CPython", "platform_release": "6.1",
 ///     "platform_system": "Linux", "platform_version": "", "python_full_version": "3.11.7",
 ///     "python_version": "3.11", "sys_platform": "linux"}"#;
-/// let rows = fowlyore::check(b"foo[bar]>=1,<2\n", environment, b"foo 1.0\nfoo 1.5\nfoo 2.0\n", &[])?;
-/// assert_eq!(rows, "foo[bar] 1.5\n");
-/// assert!(fowlyore::check(b"foo\n", environment, b"foo 1.0\n", &["dev\ntest"]).is_err());
+/// let (requirements, candidates) = (b"foo[bar]>=1,<2\nbaz\n", b"foo 1.0\nfoo 1.5\nfoo 2.0\n");
+/// let rows = check(requirements, environment, candidates, &[])?;
+/// assert_eq!((rows[0].package.as_str(), &rows[0].outcome), ("baz", &Outcome::None));
+/// assert_eq!((rows[1].extras[0].as_str(), &rows[1].outcome), ("bar", &Outcome::Version("1.5".parse()?)));
+/// assert_eq!(check_text(requirements, environment, candidates, &[])?, "baz none\nfoo[bar] 1.5\n");
+/// assert!(check(b"foo\n", environment, b"foo 1.0\n", &["dev\ntest"]).is_err());
 /// # Ok::<(), fowlyore::Refused>(())
 /// ```
 ///
@@ -42,15 +33,30 @@ pub fn check(
     environment: &[u8],
     candidates: &[u8],
     extras: &[&str],
+) -> Result<Vec<Row>, Refused> {
+    check_text(requirements, environment, candidates, extras).map(|it| rows_of(&it))
+}
+
+/// The rows of [`check`] as `reqs check` prints them.
+///
+/// # Errors
+///
+/// As those of [`check`].
+pub fn check_text(
+    requirements: &[u8],
+    environment: &[u8],
+    candidates: &[u8],
+    extras: &[&str],
 ) -> Result<String, Refused> {
     native::check([requirements, environment, candidates], extras)
 }
 
-/// What `reqs matrix` prints: for each environment of a JSON list its number, and then what `reqs check`
-/// prints for it. The answers are read off one table, in which no package may have more cases than `limit`.
+/// The rows of [`check`] for each environment of a JSON list. They are read off one table, in which no
+/// package may have more cases than `limit`; where rows of a package `env` may be mistaken for the numbers of
+/// environments in the table's print, each environment is checked by itself.
 ///
 /// ```
-/// use fowlyore::{matrix, LIMIT};
+/// use fowlyore::{matrix, matrix_text, LIMIT};
 ///
 /// let environment = |system: &str| {
 ///     format!(
@@ -60,12 +66,15 @@ pub fn check(
 ///         "python_version": "3.11", "sys_platform": "{system}"}}"#
 ///     )
 /// };
-/// let environments = format!("[{}, {}]", environment("linux"), environment("win32"));
+/// let environments = format!("[{}, {}]", environment("linux"), environment("win32")).into_bytes();
 /// let requirements = b"foo>=1,<2\nbar ; sys_platform == 'win32' and extra == 'dev'\n";
 /// let candidates = b"foo 1.5\nfoo 2.0\nbar 3.0\n";
-/// let rows = matrix(requirements, environments.as_bytes(), candidates, &["dev"], LIMIT)?;
-/// assert_eq!(rows, "env 1\nfoo 1.5\nenv 2\nbar 3.0\nfoo 1.5\n");
-/// let refused = matrix(requirements, environments.as_bytes(), candidates, &["dev"], 1).unwrap_err();
+/// let rows = matrix(requirements, &environments, candidates, &["dev"], LIMIT)?;
+/// assert_eq!(rows[0], ["foo 1.5".parse()?]);
+/// assert_eq!(rows[1], ["bar 3.0".parse()?, "foo 1.5".parse()?]);
+/// let text = matrix_text(requirements, &environments, candidates, &["dev"], LIMIT)?;
+/// assert_eq!(text, "env 1\nfoo 1.5\nenv 2\nbar 3.0\nfoo 1.5\n");
+/// let refused = matrix(requirements, &environments, candidates, &["dev"], 1).unwrap_err();
 /// assert_eq!(refused.message, "requirements: more than 1 cases for bar");
 /// # Ok::<(), fowlyore::Refused>(())
 /// ```
@@ -80,8 +89,40 @@ pub fn matrix(
     candidates: &[u8],
     extras: &[&str],
     limit: u64,
+) -> Result<Vec<Vec<Row>>, Refused> {
+    let text = matrix_text(requirements, environments, candidates, extras, limit)?;
+    let each = elements(environments);
+    if let Some(texts) = grammar::environments(&text, each.len()) {
+        return Ok(texts.into_iter().map(rows_of).collect());
+    }
+    let checked = each
+        .into_iter()
+        .map(|it| check(requirements, it, candidates, extras));
+    checked.collect()
+}
+
+/// What `reqs matrix` prints: for each environment a line `env` with its number, from 1, and then the rows of
+/// [`check`]. A row of a package `env` may look like such a line; [`matrix`] tells them apart.
+///
+/// # Errors
+///
+/// As those of [`matrix`].
+pub fn matrix_text(
+    requirements: &[u8],
+    environments: &[u8],
+    candidates: &[u8],
+    extras: &[&str],
+    limit: u64,
 ) -> Result<String, Refused> {
     native::matrix([requirements, environments, candidates], extras, limit)
+}
+
+fn rows_of(text: &str) -> Vec<Row> {
+    lines_of(text).map(Row::of_printed).collect()
+}
+
+fn lines_of(text: &str) -> std::str::SplitTerminator<'_, char> {
+    grammar::lines(text).expect("the library prints whole lines")
 }
 
 /// Whether two lists require the same of each package: whether it is required, its extras, its version range,
@@ -93,7 +134,7 @@ pub fn matrix(
 /// use fowlyore::{same, Same, LIMIT};
 ///
 /// assert_eq!(same(b"foo>=1,<2\n", b"Foo<2.0\nfoo>=1\n", LIMIT)?, Same::Yes);
-/// let no = Same::No { package: "bar".into(), marker: "sys_platform == 'win32'".into() };
+/// let no = Same::No { package: "bar".into(), marker: Some("sys_platform == 'win32'".into()) };
 /// assert_eq!(same(b"foo\n", b"foo\nbar ; sys_platform == 'win32'\n", LIMIT)?, no);
 /// # Ok::<(), fowlyore::Refused>(())
 /// ```
@@ -108,25 +149,39 @@ pub fn same(left: &[u8], right: &[u8], limit: u64) -> Result<Same, Refused> {
         return Ok(Same::Yes);
     }
     let text = answer.text();
-    let mut lines = text.lines().skip(1).map(String::from);
-    let package = lines.next().unwrap_or_default();
-    let marker = lines.next().unwrap_or_default();
-    Ok(Same::No { package, marker })
+    let printed = text.strip_suffix('\n').unwrap_or(&text);
+    Ok(printed.parse().expect("the library prints a difference"))
 }
 
-/// What `reqs conflicts` prints: a line for each case of a package whose lines contradict each other. No
-/// plain version, one without a local part that is no post-release, is accepted by all of them. Other
-/// versions may be: `torch==2.0+cu118` and `torch<=2.0` are printed, and both accept 2.0+cu118.
+/// The cases of packages whose lines contradict each other: no plain version, one without a local part that
+/// is no post-release, is accepted by all of them. Other versions may be: the lines `torch==2.0+cu118` and
+/// `torch<=2.0` are a conflict, and both accept 2.0+cu118.
 ///
 /// ```
-/// assert_eq!(fowlyore::conflicts(b"foo>=2\nfoo<1\n", fowlyore::LIMIT)?, "foo 1,2\n");
+/// use fowlyore::{conflicts, conflicts_text, LIMIT};
+///
+/// let found = conflicts(b"foo>=2\nbar\nfoo<1\n", LIMIT)?;
+/// assert_eq!((found[0].package.as_str(), found[0].lines.as_slice()), ("foo", &[1, 3][..]));
+/// assert!(!found[0].names_prerelease && found.len() == 1);
+/// assert_eq!(conflicts_text(b"foo>=2\nbar\nfoo<1\n", LIMIT)?, "foo 1,3\n");
 /// # Ok::<(), fowlyore::Refused>(())
 /// ```
 ///
 /// # Errors
 ///
 /// `Refused` for an invalid list, and then for the first package by name with more cases than `limit`.
-pub fn conflicts(requirements: &[u8], limit: u64) -> Result<String, Refused> {
+pub fn conflicts(requirements: &[u8], limit: u64) -> Result<Vec<Conflict>, Refused> {
+    let text = conflicts_text(requirements, limit)?;
+    let conflict = |it: &str| it.parse().expect("the library prints conflicts");
+    Ok(lines_of(&text).map(conflict).collect())
+}
+
+/// The answer of [`conflicts`] as `reqs conflicts` prints it.
+///
+/// # Errors
+///
+/// As those of [`conflicts`].
+pub fn conflicts_text(requirements: &[u8], limit: u64) -> Result<String, Refused> {
     native::conflicts(requirements, limit)
 }
 

@@ -30,8 +30,21 @@ const EXTRAS_TO_SIMPLIFY: u32 = 2;
 /// The library's message for a marker that never holds and so has no normal text.
 const NEVER_HOLDS: &str = "no normal text: never holds";
 
+/// Declares the library's functions. Where the crate is built without the library (`build.rs`), each stands
+/// for what can't be linked.
+macro_rules! declared {
+    (extern "C" { $(fn $name:ident($($word:ident: $kind:ty),* $(,)?) -> $reply:ty;)* }) => {
+        #[cfg(not(reqs_absent))]
+        extern "C" { $(fn $name($($word: $kind),*) -> $reply;)* }
+        $(#[cfg(reqs_absent)]
+        #[allow(clippy::too_many_arguments)]
+        unsafe fn $name($(_: $kind),*) -> $reply { crate::absent::library() })*
+    };
+}
+
 // `tests/rust.sh` compares these with `include/reqs.h`.
 #[rustfmt::skip]
+declared! {
 extern "C" {
     fn reqs_abi() -> u32;
     fn reqs_check(
@@ -89,6 +102,7 @@ extern "C" {
         left: *const u8, left_len: usize, right: *const u8, right_len: usize, out: *mut u8, out_len: usize,
     ) -> Reply;
     fn reqs_specifiers_empty(text: *const u8, text_len: usize, out: *mut u8, out_len: usize) -> Reply;
+}
 }
 
 /// The answer of a call, and whether it is that two lists differ.

@@ -32,6 +32,15 @@ impl Version {
         &self.text
     }
 
+    /// The version of a text that the library has printed, by one call for the key.
+    pub(crate) fn of_normal(text: &str) -> Option<Version> {
+        let key = native::version_key(text)?.into_boxed_slice();
+        Some(Version {
+            text: text.into(),
+            key,
+        })
+    }
+
     /// Bytes in whose order versions sort: those of two versions compare as the versions do, and are equal if
     /// these are.
     #[must_use]
@@ -49,10 +58,8 @@ impl FromStr for Version {
     ///
     /// `Refused` for a text that is not a version.
     fn from_str(text: &str) -> Result<Version, Refused> {
-        let text = native::version(text)?.into_boxed_str();
-        let key = native::version_key(&text).expect("a normal text is a version's");
-        let key = key.into_boxed_slice();
-        Ok(Version { text, key })
+        let text = native::version(text)?;
+        Ok(Version::of_normal(&text).expect("a normal text is a version's"))
     }
 }
 

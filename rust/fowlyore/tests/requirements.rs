@@ -3,7 +3,7 @@
 mod drawn;
 
 use drawn::Draws;
-use fowlyore::{check, MarkerTree, Refused, Requirement};
+use fowlyore::{check_text, MarkerTree, Refused, Requirement};
 
 const LINUX: &str = r#"{"implementation_name": "cpython", "implementation_version": "3.11.7", "os_name": "posix",
     "platform_machine": "x86_64", "platform_python_implementation": "CPython", "platform_release": "6.1",
@@ -21,11 +21,11 @@ fn no_requirement_is_hidden_by_its_print() {
     let line = read(text);
     assert_eq!(line.marker.evaluate(LINUX, &[]), Ok(true));
     assert_eq!(
-        check(text.as_bytes(), LINUX.as_bytes(), b"evil 1.0\n", &[]),
+        check_text(text.as_bytes(), LINUX.as_bytes(), b"evil 1.0\n", &[]),
         Ok("evil 1.0\n".into())
     );
     assert_eq!(
-        check(
+        check_text(
             line.to_string().as_bytes(),
             LINUX.as_bytes(),
             b"evil 1.0\n",
@@ -88,8 +88,9 @@ fn requirements_apply_as_their_texts_do() {
         let text = format!("foo ; {}", draws.marker(3));
         let (environment, extras) = (draws.version(), draws.extras());
         let environment = draws.environment(environment);
-        let rows =
-            |it: &str| check(it.as_bytes(), environment.as_bytes(), b"foo 1\n", &extras).unwrap();
+        let rows = |it: &str| {
+            check_text(it.as_bytes(), environment.as_bytes(), b"foo 1\n", &extras).unwrap()
+        };
         let line = read(&text);
         let applies = line.marker.evaluate(&environment, &extras).unwrap();
         applied += usize::from(applies);

@@ -1,0 +1,206 @@
+//! Answers as values: they say what the commands print, and a table what each environment is answered.
+
+mod drawn;
+
+use drawn::Draws;
+use fowlyore::{
+    check, check_text, conflicts, conflicts_text, matrix, matrix_text, same, Conflict, Outcome,
+    Row, Same, LIMIT,
+};
+use std::fmt::Display;
+
+/// Names, of which `env` is also how `matrix` begins a line that is no row.
+const NAMES: [&str; 6] = ["env", "ENV", "Foo", "b_c.d", "none", "pre"];
+const SPECIFIERS: [&str; 11] = [
+    "",
+    "",
+    ">=1",
+    "<2",
+    ">=2rc1",
+    "==1",
+    "==2.*",
+    "<1",
+    "!=2",
+    "~=1.5",
+    " @ https://example.org/x",
+];
+/// Specifiers that can be compared.
+const COMPARED: usize = 10;
+const VERSIONS: [&str; 7] = ["1", "2", "1.5", "2.0RC1", "1.0.post1", "1+a", "3"];
+
+/// The text of a list, whose specifiers are among the first of the above.
+fn list(draws: &mut Draws, specifiers: usize) -> String {
+    let count = draws.below(7);
+    let mut line = || {
+        let (name, extras) = (draws.one(&NAMES), draws.one(&["", "", "[z]", "[B_1,a]"]));
+        let required = draws.one(&SPECIFIERS[..specifiers]);
+        let marker = if draws.below(2) == 0 { "" } else { "and" };
+        match marker {
+            "" => format!("{name}{extras}{required}\n"),
+            _ => format!("{name}{extras}{required} ; {}\n", draws.marker(2)),
+        }
+    };
+    (0..count).map(|_| line()).collect()
+}
+
+fn candidates(draws: &mut Draws) -> String {
+    let count = draws.below(20);
+    let line = |_| format!("{} {}\n", draws.one(&NAMES), draws.one(&VERSIONS));
+    (0..count).map(line).collect()
+}
+
+fn environment(draws: &mut Draws) -> String {
+    let version = draws.version();
+    draws.environment(version)
+}
+
+fn lines<Item: Display>(items: &[Item]) -> String {
+    items.iter().map(|it| format!("{it}\n")).collect()
+}
+
+#[test]
+fn rows_are_what_is_printed() {
+    let mut draws = Draws::of(41);
+    let mut counts = [0; 3];
+    for _ in 0..1500 {
+        let (list, candidates) = (list(&mut draws, SPECIFIERS.len()), candidates(&mut draws));
+        let (environment, extras) = (environment(&mut draws), draws.extras());
+        let texts = [
+            list.as_bytes(),
+            environment.as_bytes(),
+            candidates.as_bytes(),
+        ];
+        let rows = check(texts[0], texts[1], texts[2], &extras).unwrap();
+        let text = check_text(texts[0], texts[1], texts[2], &extras).unwrap();
+        assert_eq!(lines(&rows), text, "{list}");
+        for row in &rows {
+            assert_eq!(row.to_string().parse().as_ref(), Ok(row));
+            counts[match &row.outcome {
+                Outcome::None => 0,
+                Outcome::Direct => 1,
+                Outcome::Version(_) => 2,
+            }] += 1;
+        }
+    }
+    assert!(counts.iter().all(|it| *it > 100), "{counts:?}");
+}
+
+/// Also where rows of the package `env` look like the lines before an environment's rows.
+#[test]
+fn tables_are_what_each_environment_is_answered() {
+    let mut draws = Draws::of(42);
+    let mut alike = 0;
+    for _ in 0..800 {
+        let (list, candidates) = (list(&mut draws, SPECIFIERS.len()), candidates(&mut draws));
+        let count = draws.below(5);
+        let environments: Vec<String> = (0..count).map(|_| environment(&mut draws)).collect();
+        let (extras, joined) = (draws.extras(), format!("[{}]", environments.join(", ")));
+        let texts = [list.as_bytes(), joined.as_bytes(), candidates.as_bytes()];
+        let wanted: Vec<Vec<Row>> = environments
+            .iter()
+            .map(|it| check(texts[0], it.as_bytes(), texts[2], &extras).unwrap())
+            .collect();
+        let found = matrix(texts[0], texts[1], texts[2], &extras, LIMIT);
+        assert_eq!(found.as_ref(), Ok(&wanted), "{list}, {joined}");
+        let numbered = (1..).zip(&wanted);
+        let print: String = numbered
+            .map(|(at, it)| format!("env {at}\n{}", lines(it)))
+            .collect();
+        let text = matrix_text(texts[0], texts[1], texts[2], &extras, LIMIT).unwrap();
+        assert_eq!(text, print);
+        alike += usize::from(
+            text.lines()
+                .filter(|it| ["env 1", "env 2", "env 3"].contains(it))
+                .count()
+                > count,
+        );
+    }
+    assert!(alike > 20, "{alike}");
+}
+
+#[test]
+fn conflicts_are_what_is_printed() {
+    let mut draws = Draws::of(43);
+    let mut counts = [0; 2];
+    for _ in 0..1500 {
+        let list = list(&mut draws, SPECIFIERS.len());
+        let found = conflicts(list.as_bytes(), LIMIT).unwrap();
+        let text = conflicts_text(list.as_bytes(), LIMIT).unwrap();
+        assert_eq!(lines(&found), text, "{list}");
+        for it in &found {
+            assert!(*it.lines.last().unwrap() <= list.lines().count());
+            assert_eq!(it.to_string().parse::<Conflict>().as_ref(), Ok(it));
+            counts[usize::from(it.names_prerelease)] += 1;
+        }
+    }
+    assert!(counts.iter().all(|it| *it > 50), "{counts:?}");
+}
+
+/// A list requires the same in another order, and something else where a package is required besides.
+#[test]
+fn differences_have_their_package_and_place() {
+    let mut draws = Draws::of(44);
+    let mut counts = [0; 3];
+    for _ in 0..800 {
+        let left = list(&mut draws, COMPARED);
+        let turned: String = left.lines().rev().map(|it| format!("{it}\n")).collect();
+        assert_eq!(
+            same(left.as_bytes(), turned.as_bytes(), LIMIT),
+            Ok(Same::Yes),
+            "{left}"
+        );
+        let (place, wanted) =
+            draws.one(&[("", None), (" ; os_name == 'x'", Some("os_name == 'x'"))]);
+        let more = format!("zz{place}\n{left}");
+        let no = Same::No {
+            package: "zz".into(),
+            marker: wanted.map(String::from),
+        };
+        assert_eq!(
+            same(left.as_bytes(), more.as_bytes(), LIMIT),
+            Ok(no),
+            "{left}"
+        );
+        let right = list(&mut draws, COMPARED);
+        let found = same(left.as_bytes(), right.as_bytes(), LIMIT).unwrap();
+        assert_eq!(
+            found.to_string().parse().as_ref(),
+            Ok(&found),
+            "{left}, {right}"
+        );
+        counts[match &found {
+            Same::Yes => 0,
+            Same::No { marker: None, .. } => 1,
+            Same::No {
+                marker: Some(_), ..
+            } => 2,
+        }] += 1;
+    }
+    assert!(counts.iter().all(|it| *it > 10), "{counts:?}");
+}
+
+#[test]
+fn other_prints_are_refused_at_their_place() {
+    for (text, start, len) in [
+        ("", 0, 0),
+        ("foo", 3, 0),
+        ("foo ", 4, 0),
+        ("Foo 1", 0, 1),
+        ("foo[] 1", 4, 1),
+        ("foo[b,a] 1", 6, 1),
+        ("foo[a,a] 1", 6, 1),
+        ("foo 1.0-rc1", 7, 1),
+        ("foo v1", 4, 1),
+        ("foo 1.0rc01", 4, 1),
+        ("foo None", 4, 1),
+        ("foo 1\n", 5, 1),
+        ("foo 1\u{e9}", 5, 2),
+    ] {
+        let refused = text.parse::<Row>().unwrap_err();
+        let place = (refused.input, refused.line, refused.start, refused.len);
+        assert_eq!(place, (1, 0, start, len), "{text:?}: {refused}");
+    }
+    assert_eq!("foo 0,1".parse::<Conflict>().unwrap_err().start, 4);
+    assert_eq!("foo 2,1".parse::<Conflict>().unwrap_err().start, 6);
+    assert_eq!("no\nfoo\n".parse::<Same>().unwrap_err().start, 7);
+}
