@@ -184,8 +184,8 @@ without() {
 says_what_is_missing() {
     local it
     for it in wheel deb verify; do
-        without ./pack "$it" "$work/none"
-        is_refused "command rt is not on the PATH: .*dist/fowlyore-[^ ]*\.whl" && [ ! -e "$work/none" ] || return
+        without ./pack "$it"
+        is_refused "command rt is not on the PATH: .*dist/fowlyore-[^ ]*\.whl" && [ ! -e "$first/out" ] || return
     done
 }
 
