@@ -4,6 +4,7 @@ The library is the one that `./build reqs_c` has proved and made, or the file th
 """
 
 import base64
+import glob
 import hashlib
 import os
 import re
@@ -66,8 +67,8 @@ def demand_toolchain():
     """Ends this process in one sentence where the library has to be built and the toolchain is missing."""
     if os.environ.get("REQS_LIBRARY") or shutil.which("rt"):
         return
-    wheel = os.path.join(TOP, "dist", wheel_name())
-    instead = f"pip install {wheel}" if os.path.exists(wheel) else "install a wheel that was made elsewhere"
+    wheels = sorted(glob.glob(os.path.join(glob.escape(TOP), "dist", f"{NAME}-*.whl")))
+    instead = f"pip install {wheels[-1]}" if wheels else "install a wheel that was made elsewhere"
     sys.exit(f"{NAME}: the library has to be proved and built by the Rattle toolchain, and the command rt is not on the PATH: {instead}")
 
 
