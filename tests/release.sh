@@ -83,7 +83,7 @@ says_what_it_is_of() {
     local page=$first/dist/README.md line it
     line=$(sed -n 's/^`\(git ls-files [^`]*\)`.*/\1/p' "$page")
     [ "$(cd -- "$first" && bash -c "$line")" = "$sum  -" ] || return
-    for it in "$sum" "$(rt version)" "12 passed, 0 failed" "was given built" "$first"/dist/*.{whl,deb}; do
+    for it in "$sum" "$(rt version)" "12 passed, 0 failed" "was handed to" "$first"/dist/*.{whl,deb}; do
         grep -qF -- "${it##*/}" "$page" || { echo "dist/README.md doesn't say ${it##*/}"; return 1; }
     done
 }
