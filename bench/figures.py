@@ -6,14 +6,14 @@
 
 A **figure** there has its value and unit, what it is of, the command of bench/ that measured it, the date, and the machine's
 cores and clock; null is what nobody wrote down. The word `--write` of a measuring script puts its own figures there. A
-**sentence** is one of a document with a hole for each figure: `{NAME}` is the figure with its unit, `{NAME/cores}` and
+**sentence** is one of a document with a hole for each figure: `{NAME}` is the figure with its unit, `{NAME/of}` what it is of, `{NAME/cores}` and
 `{NAME/clock}` tell of its machine. A **bound** isn't measured: a sentence whose numbers some file of the repository holds,
 and that file's own words.
 
-The documents are README.md, the pages of docs/, examples/README.md and rust/fowlyore/README.md, but for those of LEFT_OUT: dated
-tables and accounts of single runs for those who work on the repository, as bench/README.md is one. Each sentence and bound has
-to stand in its document just once, as a whole sentence or clause. Beside a sentence its paragraph may have no digit, and
-elsewhere no document may have a word of time, memory or speed (MEASURED, SPEED). The last line is `N passed, M failed`.
+The documents are README.md, CHANGELOG.md, the pages of docs/, examples/README.md and rust/fowlyore/README.md, but for those of
+LEFT_OUT: dated tables and accounts of single runs for those who work on the repository, as bench/README.md is one. Each sentence
+and bound has to stand in its document just once, as a whole sentence or clause. Beside a sentence its paragraph may have no digit,
+and elsewhere no document may have a word of time, memory or speed (MEASURED, SPEED). The last line is `N passed, M failed`.
 """
 
 import glob
@@ -27,16 +27,17 @@ import time
 
 TOP = os.path.dirname(os.path.dirname(os.path.abspath(__file__)))
 FILE = os.path.join(TOP, "bench", "figures.json")
-DOCUMENTS = ("README.md", "docs/*.md", "examples/README.md", "rust/fowlyore/README.md")
+DOCUMENTS = ("README.md", "CHANGELOG.md", "docs/*.md", "examples/README.md", "rust/fowlyore/README.md")
 LEFT_OUT = {f"docs/{it}.md" for it in ("DECISIONS", "FILES", "GATE", "VECTORS")}
 UNITS = ("µs", "ms", "s", "minutes", "KiB", "MiB", "MB", "times")
 FIELDS = ["value", "unit", "of", "command", "date", "cores", "clock"]
 COUNTS = ("no", "one", "two", "three", "four", "five", "six", "seven", "eight")
 
-HOLE = re.compile(r"\{([\w.]+)(?:/(cores|clock))?\}")
+HOLE = re.compile(r"\{([\w.]+)(?:/(cores|clock|of))?\}")
 # The white space between words, what a hole may have held before, and where a sentence or clause begins and ends.
 WHITE = r"(?: |\n *)"
 HELD = rf"[\w.,]+(?:{WHITE}(?:{'|'.join((*UNITS, 'GHz'))})(?!\w))?"
+HELD_OF = "[^:;|]+?"
 BEGIN = r"(?:\A[-\s*|]*|[.:;|][\s*]+)"
 END = r"(?=[.:;](?:\s|\Z)|\s*(?:\||\Z))"
 PARAGRAPH = re.compile(r"^(?=- |\||#|[ \t]*$)", re.M)
@@ -153,14 +154,18 @@ def filled(figures, said):
     return text
 
 
+def plain(words):
+    """What finds words, however their lines are broken."""
+    return WHITE.join(map(re.escape, words.split(" ")))
+
+
 def pattern(said):
     """What finds a sentence, however its lines are broken; a hole stands for whatever it may hold."""
-    pieces, at = [], 0
+    parts, at = [], 0
     for hole in HOLE.finditer(said):
-        pieces += [said[at : hole.start()], None]
+        parts += [plain(said[at : hole.start()]), f"({HELD_OF if hole[2] == 'of' else HELD})"]
         at = hole.end()
-    parts = (f"({HELD})" if it is None else WHITE.join(map(re.escape, it.split(" "))) for it in [*pieces, said[at:]])
-    return re.compile(f"(?P<begin>{BEGIN}){''.join(parts)}{END}")
+    return re.compile(f"(?P<begin>{BEGIN}){''.join(parts)}{plain(said[at:])}{END}")
 
 
 def documents():

@@ -50,11 +50,11 @@ OF_TEXTS, OF_PROOFS = "texts", "proofs"
 PROVE, WRONG, HELD, NAMES = ["gate/prove.py"], ["gate/wrong.py"], ["gate/held.py"], ["gate/names.py"]
 LENT, CONSTANTS, FITS = ["gate/lent.py"], ["gate/constants.py"], [*WRONG, "--texts"]
 MUTANTS, FIGURES = ["gate/mutants.py", "--listed"], ["bench/figures.py", "--check"]
-FILES = ["tools/files.py", "--check"]
+FILES, VERSIONS = ["tools/files.py", "--check"], ["gate/versions.py"]
 PACK = [*PROVE, "--program", "reqs_c"]
 DOCUMENTED = ["tests/documented.py", os.path.join(TOP, "crates", "reqs_cli", "out", "reqs_cli")]
 # The parts that prove nothing, and leave nothing in the tree.
-TEXTS = (HELD, MUTANTS, NAMES, LENT, CONSTANTS, FITS, FIGURES, FILES, DOCUMENTED)
+TEXTS = (HELD, MUTANTS, NAMES, LENT, CONSTANTS, FITS, FIGURES, FILES, VERSIONS, DOCUMENTED)
 PYTHON_TESTS = "python/tests/test_specifiers.py"
 SPECIFIERS = "crates/reqs_versions/specs/Specifiers.antt"
 UNNOTICED = "reqs_versions.Specifiers.AreTaken: drop field is_list ="
@@ -129,6 +129,7 @@ FAULTS = [
     Fault("a table that keeps its lines twice", None, LENT, "crates/reqtable_table/src/table.rt",
           "pub(crate) lines: Vec<TableLine>,", "pub(crate) lines: Vec<TableLine>, pub(crate) given: Vec<Given>,"),
     Fault("a list of files that lacks one", None, FILES, "docs/FILES.md", "- `gate/floors.py`: ", "- `gate/floor.py`: "),
+    Fault("a crate of another version", None, VERSIONS, "rust/fowlyore/Cargo.toml", '\nversion = "', '\nversion = "1'),
     Fault("a library for C that isn't packed", "reqs_c", PACK, "tools/pack.sh", "set -eu\n", "exit 1\n"),
     Fault("no edits", None, FITS, "tests/wrong/gate.txt", "", ""),
 ]

@@ -28,6 +28,7 @@ import keys
 import verdicts
 from crates import TOP, Crates, toolchain_sum
 from faults import OF_PROOFS, OF_TEXTS, groups_of
+from sources import sources
 from store import Store
 
 CLOSING = re.compile(r"^(?:[a-z]+: )?(\d+) passed, (\d+) failed$", re.M)
@@ -73,6 +74,8 @@ def parts(more):
     licences = ("LICENSE-APACHE", "LICENSE-BSD")
     of_pack = (*licences, "build", "examples", "gate/prove.py", "include", "pack", "tools")
     of_python = (*of_pack, "README.md", "docs/PYTHON.md", "pyproject.toml", "python", "tests/python.sh", "tests/refuse.c")
+    of_release = (*of_pack, ".gitignore", "README.md", "crates.txt", "docs", "gate", "install", "pyproject.toml", "python", "share",
+                  "tests/release.sh")
     of_deb = (*of_pack, "docs/C.md", "docs/COMMANDS.md", "install", "rust/fowlyore/README.md", "share", "tests/deb.sh")
     of_index = ("bench/workload.py", "build", "gate/prove.py", "examples/index", "python", "tests/index.py", "tools")
     asked = [f"crates/{it}/{of}" for it in QUESTIONS for of in ("data", "stdout")]
@@ -88,6 +91,7 @@ def parts(more):
         Part("lent calls", [*python, "gate/lent.py"]),
         Part("list of files", [*python, "tools/files.py", "--check"]),
         Part("calls without memory", [*python, "gate/no_memory.py"]),
+        Part("one version", [*python, "gate/versions.py"]),
     ], Part("proofs and wrong edits", [*python, "gate/together.py", *more], closings=2), [
         Part("command line", ["bash", "tests/cli.sh"], ["reqs_cli"], [*of_reqs, "README.md", "docs"]),
         Part("answers compared", [*python, "tests/alike.py", "1000"], ["reqs_cli"], of_reqs),
@@ -99,6 +103,7 @@ def parts(more):
         Part("Python package", ["bash", "tests/python.sh"], ["reqs_c"], of_python),
         Part("lists in pieces", [*python, "tests/index.py"], ["reqs_c", "reqs_cli"], of_index),
         Part("Debian package", ["bash", "tests/deb.sh"], ["reqs_c", "reqs_cli"], of_deb),
+        Part("release", ["bash", "tests/release.sh"], ["reqs_c", "reqs_cli"], of_release),
         Part("Rust crate", ["bash", "tests/rust.sh"], ["reqs_c"], [*of_c, *licences, "rust", "tests/rust.sh", "tests/rust"]),
         Part("faults in texts", [*python, "gate/faults.py", OF_TEXTS], ["reqs_cli"], of_faults(OF_TEXTS)),
         Part("faults in proofs", [*python, "gate/faults.py", OF_PROOFS], ["underline"], of_faults(OF_PROOFS)),
@@ -164,8 +169,17 @@ def are_built(programs):
     return all(subprocess.run([*words, it], cwd=TOP).returncode == 0 for it in programs)
 
 
+def sources_said():
+    """The line by which `./pack release` knows that the gate ran on its sources, or why there is none."""
+    try:
+        return f"test: sources {sources()}"
+    except (OSError, ValueError) as error:
+        return f"test: a release can't quote this run: {error}"
+
+
 def gate(more, demands_all):
     began, store, crates = time.monotonic(), Store(reads=not more), Crates()
+    of_sources = sources_said()
     of_texts, proofs, of_programs = parts(more)
     with ThreadPoolExecutor() as pool:
         beside = [pool.submit(judged_apart, it, crates, store) for it in of_texts]
@@ -183,6 +197,7 @@ def gate(more, demands_all):
     if left:
         print("test: left out, though a release needs all of it (./test --release):", *left, sep="\n    ")
     failed += len(left) if demands_all else 0
+    print(of_sources if of_sources == sources_said() else "test: a release can't quote this run: files were changed meanwhile")
     used = resource.getrusage(resource.RUSAGE_CHILDREN)
     print(f"test: {time.monotonic() - began:.0f} s, {used.ru_utime + used.ru_stime:.0f} processor seconds")
     print(f"{passed} passed, {failed} failed")

@@ -4,10 +4,13 @@ The library is the one that `./build reqs_c` has proved and made, or the file th
 """
 
 import base64
+import glob
 import hashlib
 import os
 import re
+import shutil
 import subprocess
+import sys
 import zipfile
 
 HERE = os.path.dirname(os.path.abspath(__file__))
@@ -17,13 +20,20 @@ NAME = "fowlyore"
 GLIBC = (2, 17)
 PYTHON, PLATFORMS = "py3-none", ("manylinux_2_17_x86_64", "manylinux2014_x86_64")
 SUMMARY = "Judges lists of Python requirements, and compares them (PEP 440, PEP 508), by a library whose answers are proved"
+KEYWORDS = ["requirements", "dependencies", "versions", "specifiers", "markers", "lock files", "packaging", "PEP 440", "PEP 508"]
 CLASSIFIERS = [
+    "Development Status :: 4 - Beta",
+    "Environment :: Console",
+    "Intended Audience :: Developers",
     "License :: OSI Approved :: Apache Software License",
     "License :: OSI Approved :: BSD License",
     "Operating System :: POSIX :: Linux",
     "Programming Language :: Python :: 3",
     "Programming Language :: Python :: 3 :: Only",
     *(f"Programming Language :: Python :: 3.{it}" for it in range(8, 14)),
+    "Topic :: Software Development :: Build Tools",
+    "Topic :: Software Development :: Libraries :: Python Modules",
+    "Topic :: System :: Software Distribution",
     "Typing :: Typed",
 ]
 # (these are the fields of that version; what it doesn't know, as License-File, an upload may be refused for)
@@ -31,6 +41,7 @@ METADATA = """Metadata-Version: 2.1
 Name: {name}
 Version: {version}
 Summary: {summary}
+Keywords: {keywords}
 License: Apache-2.0 OR BSD-2-Clause
 {classifiers}
 Requires-Python: >=3.8
@@ -52,10 +63,20 @@ def version():
     return re.search(r'^__version__ = "(.*)"$', read("python", NAME, "__init__.py").decode(), re.M)[1]
 
 
+def demand_toolchain():
+    """Ends this process in one sentence where the library has to be built and the toolchain is missing."""
+    if os.environ.get("REQS_LIBRARY") or shutil.which("rt"):
+        return
+    wheels = sorted(glob.glob(os.path.join(glob.escape(TOP), "dist", f"{NAME}-*.whl")))
+    instead = f"pip install {wheels[-1]}" if wheels else "install a wheel that was made elsewhere"
+    sys.exit(f"{NAME}: the library has to be proved and built by the Rattle toolchain, and the command rt is not on the PATH: {instead}")
+
+
 def library():
     """The bytes of the shared library, which has to run with the C library that the tag promises."""
     path = os.environ.get("REQS_LIBRARY")
     if not path:
+        demand_toolchain()
         subprocess.run([os.path.join(TOP, "build"), "reqs_c"], check=True, cwd=TOP, stdin=subprocess.DEVNULL)
         path = os.path.join(TOP, "crates", "reqs_c", "out", "libreqs.so")
     data = read(path)
@@ -68,6 +89,7 @@ def library():
 def information():
     """The files of the folder dist-info but RECORD."""
     said = {"name": NAME, "version": version(), "summary": SUMMARY, "description": read("docs", "PYTHON.md").decode()}
+    said["keywords"] = ",".join(KEYWORDS)
     said["classifiers"] = "\n".join(f"Classifier: {it}" for it in CLASSIFIERS)
     tags = "".join(f"Tag: {PYTHON}-{it}\n" for it in PLATFORMS)
     return {
@@ -94,7 +116,7 @@ def wheel_name():
 
 def build_wheel(wheel_directory, config_settings=None, metadata_directory=None):
     name = wheel_name()
-    records = []
+    records, made = [], list(files())
     with zipfile.ZipFile(os.path.join(wheel_directory, name), "w") as wheel:
 
         def write(path, data):
@@ -104,7 +126,7 @@ def build_wheel(wheel_directory, config_settings=None, metadata_directory=None):
             info.compress_type = zipfile.ZIP_DEFLATED
             wheel.writestr(info, data)
 
-        for path, data in files():
+        for path, data in made:
             write(path, data)
             digest = base64.urlsafe_b64encode(hashlib.sha256(data).digest()).rstrip(b"=").decode()
             records.append(f"{path},sha256={digest},{len(data)}\n")
@@ -123,6 +145,7 @@ def prepare_metadata_for_build_wheel(metadata_directory, config_settings=None):
 
 
 def get_requires_for_build_wheel(config_settings=None):
+    demand_toolchain()
     return []
 
 

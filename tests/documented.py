@@ -6,7 +6,7 @@
 A command line stands behind `    $ ` in README.md or in a page of docs/ or examples/, and what it writes in the indented lines
 below. PROGRAM is run in place of `./reqs` and `./try`. A line is printed for each that differs; the last line is
 `documented: N passed, M failed`. tests/least.txt says how many there are at least. The lines of docs/C.md are run by c.py,
-the Python sessions by python/tests/test_documents.py.
+the Python sessions and the lines of `fowlyore` by python/tests/test_documents.py.
 """
 
 import re
@@ -20,11 +20,8 @@ import runs
 TOP = Path(__file__).resolve().parents[1]
 PAGES = ("README.md", "docs/*.md", "examples/*.md", "examples/*/*.md")
 OTHERS = {TOP / "docs" / "C.md"}
-# These change what is installed on the machine: python.sh and deb.sh install the packages into rooms of their own.
-INSTALLS = {
-    "pip install out/packages/fowlyore-*.whl && python -m fowlyore check requirements.txt",
-    "sudo apt install ./out/packages/reqs_0.1.0_amd64.deb && reqs conflicts requirements.txt",
-}
+# What these run is installed: release.sh does so in an environment of its own.
+OF_PACKAGES = ("    $ pip install ", "    $ fowlyore ")
 
 
 def examples():
@@ -32,7 +29,7 @@ def examples():
     for page in sorted({it for of in PAGES for it in TOP.glob(of)} - OTHERS):
         lines = page.read_text(encoding="utf-8").splitlines()
         for at, line in enumerate(lines):
-            if line.startswith("    $ ") and line[6:] not in INSTALLS:
+            if line.startswith("    $ ") and not line.startswith(OF_PACKAGES):
                 written = []
                 for below in lines[at + 1 :]:
                     if not below.startswith("    ") or below.startswith("    $ "):

@@ -1,6 +1,6 @@
 #!/usr/bin/env bash
 # Tests of the Python package, by each interpreter from 3.8 on that there is, over the library that `./build reqs_c` makes; of its
-# types, by mypy; of its wheel, installed into an environment of its own; and packaging's own tests, where they were fetched.
+# types, by mypy; of its wheel, installed by each into an environment of its own; and packaging's own tests, where they were fetched.
 #
 #     python.sh [LIBRARY]
 #
@@ -77,25 +77,29 @@ else
     fail "the types, by mypy --strict"
 fi
 
-# The wheel, in an environment with nothing else, from another folder: README's first answer.
+# The wheel, by an interpreter's own pip without an index, in an environment with nothing else and from another folder: README's
+# first answer.
 try_wheel() {
-    local wheel first=$top/examples/first
-    cd "$work" || return
-    wheel=$(REQS_LIBRARY=$library "$top/pack" wheel "$work") && [ -f "$wheel" ] || return
-    python3 -m venv --without-pip clean && python3 -m pip -q --python clean/bin/python install --no-index "$wheel" || return
-    clean/bin/fowlyore check "$first/requirements.txt" --environment "$first/environment.json" \
-        --candidates "$first/candidates.txt" >out && cmp out "$first/expected.txt" || return
-    clean/bin/python -c 'import fowlyore; print(*fowlyore.installed())' >out && grep -q "^('fowlyore', '" out || return
-    cp -- "$wheel" first.whl && REQS_LIBRARY=$library "$top/pack" wheel "$work" >/dev/null && cmp first.whl "$wheel"
+    local room=$work/clean-$1 first=$top/examples/first
+    cd "$work" && "$2" -m venv --without-pip "$room" && "$2" -m pip -q --python "$room/bin/python" install --no-index "$wheel" || return
+    "$room/bin/fowlyore" check "$first/requirements.txt" --environment "$first/environment.json" \
+        --candidates "$first/candidates.txt" >"$room/out" && cmp "$room/out" "$first/expected.txt" || return
+    "$room/bin/python" -c 'import fowlyore; print(*fowlyore.installed())' >"$room/out" && grep -q "^('fowlyore', '" "$room/out"
 }
 
-if ! python3 -m pip --version 2>/dev/null | grep -qE '^pip (2[3-9]|[3-9][0-9])'; then
-    echo "not tried: the wheel, which wants pip 23 or later (pip install --upgrade pip)"
-elif try_wheel; then
-    passed=$((passed + 1))
-else
-    fail "the wheel, installed into an environment of its own"
+if ! wheel=$(REQS_LIBRARY=$library "$top/pack" wheel "$work") || [ ! -f "$wheel" ]; then
+    fail "the wheel was not made"
+    finish
 fi
+for version in "${!interpreters[@]}"; do
+    if ! "${interpreters[$version]}" -m pip --version 2>/dev/null | grep -qE '^pip (2[3-9]|[3-9][0-9])'; then
+        echo "not tried: the wheel by Python $version, whose pip is older than 23 or missing (pip install --upgrade pip)"
+    elif try_wheel "$version" "${interpreters[$version]}"; then
+        passed=$((passed + 1))
+    else
+        fail "the wheel by Python $version, installed into an environment of its own"
+    fi
+done
 
 # Packaging's tests over this package.
 suite=$top/out/packaging_suite

@@ -3,9 +3,12 @@
 import doctest
 import importlib
 import inspect
+import os
 import pathlib
 import pkgutil
 import re
+import subprocess
+import sys
 import unittest
 
 import fowlyore
@@ -35,6 +38,16 @@ class Documented(unittest.TestCase):
     def test_pages_have_examples(self):
         for it in PAGES:
             self.assertTrue(doctest.DocTestParser().get_examples(it.read_text(encoding="utf-8")), it)
+
+    def test_command_lines(self):
+        """The lines `$ fowlyore ..` of README.md, and what they write."""
+        found = re.findall(r"^    \$ (fowlyore .*)\n((?:    (?!\$ ).*\n)*)", PAGES[1].read_text(encoding="utf-8"), re.M)
+        self.assertTrue(found)
+        for line, written in found:
+            words = [sys.executable, "-m", "fowlyore", *line.split()[1:]]
+            how = {"cwd": TOP, "env": {**os.environ, "PYTHONPATH": str(TOP / "python")}, "stdin": subprocess.DEVNULL}
+            ran = subprocess.run(words, stdout=subprocess.PIPE, stderr=subprocess.STDOUT, **how)
+            self.assertEqual(ran.stdout.decode(), re.sub("^    ", "", written, flags=re.M), line)
 
     def test_variables_of_the_environment(self):
         sources = "".join(it.read_text(encoding="utf-8") for it in pathlib.Path(fowlyore.__path__[0]).glob("*.py"))

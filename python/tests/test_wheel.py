@@ -45,11 +45,15 @@ class Metadata(unittest.TestCase):
         for name, value in wanted.items():
             self.assertEqual(self.said.get_all(name), [value], name)
         self.assertRegex(self.said["Summary"], r"\A[^\n]{20,}\Z")
+        self.assertLessEqual({"requirements", "markers", "PEP 440", "PEP 508"}, set(self.said["Keywords"].split(",")))
 
     def test_classifiers(self):
         said = self.said.get_all("Classifier")
         self.assertLessEqual({"Operating System :: POSIX :: Linux", "Typing :: Typed"}, set(said))
         self.assertEqual(len(said), len(set(said)))
+        fronts = [it.split(" :: ")[0] for it in said]
+        self.assertEqual(fronts.count("Development Status"), 1)
+        self.assertLessEqual({"Topic", "Intended Audience", "License"}, set(fronts))
         versions = [it for it in said if re.fullmatch(r"Programming Language :: Python :: 3\.\d+", it)]
         self.assertEqual(versions[0], "Programming Language :: Python :: 3.8")
 
@@ -82,6 +86,17 @@ class Wheel(unittest.TestCase):
         said = email.message_from_bytes(self.wheel.read(f"{self.information}/WHEEL")).get_all("Tag")
         self.assertEqual(sorted(said), sorted(tags))
         self.assertIn(f"pip install {self.name}\n", PAGE)
+
+    def test_no_toolchain(self):
+        """One sentence says what to install instead, and nothing is left of a wheel."""
+        with tempfile.TemporaryDirectory() as folder, mock.patch.dict(os.environ, PATH=folder):
+            os.environ.pop("REQS_LIBRARY", None)
+            for it in (backend.get_requires_for_build_wheel, lambda: backend.build_wheel(folder)):
+                with self.assertRaisesRegex(SystemExit, r"\A[^\n]*the command rt is not on the PATH: [^\n]*install [^\n]*\Z"):
+                    it()
+            self.assertEqual(os.listdir(folder), [])
+            with mock.patch.dict(os.environ, REQS_LIBRARY=_native.path()):
+                self.assertEqual(backend.get_requires_for_build_wheel(), [])
 
     def test_files(self):
         """RECORD names each with its sum, and there are the package's and the licences."""
