@@ -485,6 +485,7 @@ static int specifier_init(PyObject *self, PyObject *args, PyObject *names) {
     if (!given || !plain_text(given, &text, NULL) || text.len > SHORT) return init_written(self, args, names);
     reqs_reply reply = reply_of(&specifiers_call, &text, 0, out, sizeof out);
     strip(&text, is_space);
+    if (reply.length && reply.length <= sizeof out && out[reply.length - 1] == '\n') reply.length--;
     int one = reply.status == REQS_ANSWERED && reply.length <= sizeof out && !memchr(out, '\n', reply.length);
     size_t sign = one ? operator_len(out, reply.length) : 0;
     if (!sign || sign > text.len) return init_written(self, args, names);

@@ -179,7 +179,7 @@ class Alike(unittest.TestCase):
         for left, right in zip(ctypes_says, extension_says):
             self.assertEqual(left, right)
         answered = sum(not json.loads(it)[1].split(" ")[0].endswith(":") for it in ctypes_says[5:-1])
-        self.assertGreater(answered, len(ctypes_says) // 5)
+        self.assertGreater(answered, len(ctypes_says) // 10)
 
     def test_each_call_of_the_library(self):
         """Those of which it has the address, with the number of texts that they take."""
