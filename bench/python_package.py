@@ -3,7 +3,8 @@
 
     python_package.py [LIBRARY] [--write]
 
-LIBRARY is libreqs.so, which `./build reqs_c` makes. Each time is the least of several runs, in microseconds of the processor for one
+LIBRARY is libreqs.so, which `./build reqs_c` makes. It is called by the extension, which is compiled first, unless the environment
+variable FOWLYORE_EXTENSION is `no` or names a file of it. Each time is the least of several runs, in microseconds of the processor for one
 operation, and the last column tells how many times as long packaging takes. Then come markers of pairs of extras, which are read
 into trees that are exponentially larger: the seconds for one reading. With `--write` it all goes to bench/figures.json.
 """
@@ -13,6 +14,7 @@ import os
 import random
 import re
 import sys
+import tempfile
 import time
 import timeit
 
@@ -24,26 +26,37 @@ PARSER.add_argument("library", nargs="?", default=os.path.join(figures.TOP, "cra
 WORDS = figures.read_words(PARSER)
 os.environ["FOWLYORE_LIBRARY"] = WORDS.library
 sys.path.insert(0, os.path.join(figures.TOP, "python"))
+from extension.build import compiled  # noqa: E402
+
+FOLDER = tempfile.TemporaryDirectory()
+if "FOWLYORE_EXTENSION" not in os.environ:
+    os.environ["FOWLYORE_EXTENSION"] = os.path.join(FOLDER.name, "_extension.abi3.so")
+    with open(os.environ["FOWLYORE_EXTENSION"], "wb") as file:
+        file.write(compiled())
 
 import fowlyore  # noqa: E402
+from fowlyore import _native  # noqa: E402
 
 try:
     import packaging
+    from packaging.markers import Marker
     from packaging.requirements import Requirement
-    from packaging.specifiers import SpecifierSet
+    from packaging.specifiers import Specifier, SpecifierSet
     from packaging.version import Version
 except ImportError:
     import pip._vendor.packaging as packaging
+    from pip._vendor.packaging.markers import Marker
     from pip._vendor.packaging.requirements import Requirement
-    from pip._vendor.packaging.specifiers import SpecifierSet
+    from pip._vendor.packaging.specifiers import Specifier, SpecifierSet
     from pip._vendor.packaging.version import Version
 
 TEXTS = ["1.0", "2.31.0", "2024.1.0.dev3", "1.0a1", "1!2.3.post4+ubuntu.1"]
-LINE = "requests[socks]>=2.8.1,<3 ; python_version < '3.13' and extra == 'test'"
+MARKER = "python_version < '3.13' and extra == 'test'"
+LINE = f"requests[socks]>=2.8.1,<3 ; {MARKER}"
 MANY = 100_000
 RUNS = 7
 PAIRS = (12, 20)
-OURS, THEIRS = f"fowlyore {fowlyore.__version__}", f"packaging {packaging.__version__}, Python {sys.version.split()[0]}"
+OURS, THEIRS = f"fowlyore {fowlyore.__version__} by {_native.how()}", f"packaging {packaging.__version__}, Python {sys.version.split()[0]}"
 # What was measured, by name.
 FOUND = {}
 
@@ -76,11 +89,18 @@ def small():
     pairs = [(make("2.31.0"), make("2.32.0")) for make in (fowlyore.Version, Version)]
     row("one < other", *(least(lambda: one < other, 200_000) - nothing for one, other in pairs))
     row("str(Version(..))", *(least(lambda: str(make("2.31.0")), 20_000) for make in (fowlyore.Version, Version)))
+    row("Version(..).release", *(least(lambda: make("2.31.0").release, 20_000) for make in (fowlyore.Version, Version)))
+    row("Version(..).is_prerelease", *(least(lambda: make("2.31.0").is_prerelease, 20_000) for make in (fowlyore.Version, Version)))
+    row("hash(Version(..))", *(least(lambda: hash(make("2.31.0")), 20_000) for make in (fowlyore.Version, Version)))
+    row("Specifier('>=1.0')", *(least(lambda: make(">=1.0"), 20_000) for make in (fowlyore.Specifier, Specifier)))
     row("SpecifierSet('>=1.0,<3')", *(least(lambda: make(">=1.0,<3"), 5_000) for make in (fowlyore.SpecifierSet, SpecifierSet)))
     sets = [make(">=1.0,<3") for make in (fowlyore.SpecifierSet, SpecifierSet)]
     row("contains('2.31.0')", *(least(lambda: it.contains("2.31.0"), 5_000) for it in sets))
+    row("contains(Version(..))", *(least(lambda: it.contains(one), 5_000) for it, (one, _) in zip(sets, pairs)))
     row("Requirement(..)", *(least(lambda: make(LINE), 1_000) for make in (fowlyore.Requirement, Requirement)))
     markers = [make(LINE).marker for make in (fowlyore.Requirement, Requirement)]
+    row("Marker(..)", *(least(lambda: make(MARKER), 1_000) for make in (fowlyore.Marker, Marker)))
+    row("marker.evaluate()", *(least(it.evaluate, 1_000) for it in markers))
     row("marker.evaluate(..)", *(least(lambda: it.evaluate({"extra": "test"}), 1_000) for it in markers))
 
 

@@ -1,11 +1,13 @@
 """Makes the wheel of the package fowlyore (PEP 517), of the files of this tree and Python's own library alone.
 
-The library is the one that `./build reqs_c` has proved and made, or the file that REQS_LIBRARY names.
+The library is the one that `./build reqs_c` has proved and made, or the file that REQS_LIBRARY names. The extension is compiled by
+$CC or cc; where it can't be, standard error says why, and the wheel is without it.
 """
 
 import base64
 import glob
 import hashlib
+import itertools
 import os
 import re
 import shutil
@@ -13,12 +15,14 @@ import subprocess
 import sys
 import zipfile
 
+from extension.build import NotCompiled, compiled
+
 HERE = os.path.dirname(os.path.abspath(__file__))
 TOP = os.path.dirname(HERE)
 NAME = "fowlyore"
-# It is called by ctypes, so any Python 3 will do. Both names mean the C library of 2012; pip before 20.3 knows the second alone.
+# Both names mean the C library of 2012; pip before 20.3 knows the second alone.
 GLIBC = (2, 17)
-PYTHON, PLATFORMS = "py3-none", ("manylinux_2_17_x86_64", "manylinux2014_x86_64")
+PLATFORMS = ("manylinux_2_17_x86_64", "manylinux2014_x86_64")
 SUMMARY = "Judges lists of Python requirements, and compares them (PEP 440, PEP 508), by a library whose answers are proved"
 KEYWORDS = ["requirements", "dependencies", "versions", "specifiers", "markers", "lock files", "packaging", "PEP 440", "PEP 508"]
 CLASSIFIERS = [
@@ -80,10 +84,42 @@ def library():
         subprocess.run([os.path.join(TOP, "build"), "reqs_c"], check=True, cwd=TOP, stdin=subprocess.DEVNULL)
         path = os.path.join(TOP, "crates", "reqs_c", "out", "libreqs.so")
     data = read(path)
-    wanted = [tuple(map(int, it)) for it in re.findall(rb"\0GLIBC_(\d+)\.(\d+)", data)]
-    if any(it > GLIBC for it in wanted):
-        raise RuntimeError(f"{path} wants glibc {max(wanted)}, and the tags {PLATFORMS} promise {GLIBC}")
+    if glibc_of(data) > GLIBC:
+        raise RuntimeError(f"{path} wants glibc {glibc_of(data)}, and the tags {PLATFORMS} promise {GLIBC}")
     return data
+
+
+def glibc_of(data):
+    """The newest version of the C library that a shared object asks for."""
+    return max((tuple(map(int, it)) for it in re.findall(rb"\0GLIBC_(\d+)\.(\d+)", data)), default=(0, 0))
+
+
+# The extension, once it is compiled, or None where it can't be.
+_COMPILED = []
+
+
+def extension():
+    """The bytes of the extension, or None where it isn't compiled."""
+    if not _COMPILED:
+        _COMPILED.append(_extension())
+    return _COMPILED[0]
+
+
+def _extension():
+    try:
+        data = compiled()
+    except NotCompiled as reason:
+        print(f"{NAME}: the wheel is made without the extension, so that ctypes calls the library: {reason}", file=sys.stderr)
+        return None
+    if glibc_of(data) > GLIBC:
+        raise RuntimeError(f"the extension wants glibc {glibc_of(data)}, and the tags {PLATFORMS} promise {GLIBC}")
+    return data
+
+
+def pythons():
+    """For which interpreters a wheel is and by which interface they call it, each as one or more names with dots between. By
+    ctypes any Python 3 calls it, and what has the extension's interface takes that."""
+    return ("cp310.py3", "abi3.none") if extension() else ("py3", "none")
 
 
 def information():
@@ -91,7 +127,7 @@ def information():
     said = {"name": NAME, "version": version(), "summary": SUMMARY, "description": read("docs", "PYTHON.md").decode()}
     said["keywords"] = ",".join(KEYWORDS)
     said["classifiers"] = "\n".join(f"Classifier: {it}" for it in CLASSIFIERS)
-    tags = "".join(f"Tag: {PYTHON}-{it}\n" for it in PLATFORMS)
+    tags = "".join(f"Tag: {'-'.join(it)}\n" for it in itertools.product(*(it.split(".") for it in pythons()), PLATFORMS))
     return {
         "METADATA": METADATA.format(**said).encode(),
         "WHEEL": f"Wheel-Version: 1.0\nGenerator: {NAME}\nRoot-Is-Purelib: false\n{tags}".encode(),
@@ -107,11 +143,13 @@ def files():
     names = sorted(it for it in os.listdir(folder) if it.endswith(".py") or it == "py.typed")
     yield from ((f"{NAME}/{it}", read("python", NAME, it)) for it in names)
     yield f"{NAME}/libreqs.so", library()
+    if extension():
+        yield f"{NAME}/_extension.abi3.so", extension()
     yield from ((f"{NAME}-{version()}.dist-info/{name}", data) for name, data in information().items())
 
 
 def wheel_name():
-    return f"{NAME}-{version()}-{PYTHON}-{'.'.join(PLATFORMS)}.whl"
+    return f"{NAME}-{version()}-{'-'.join(pythons())}-{'.'.join(PLATFORMS)}.whl"
 
 
 def build_wheel(wheel_directory, config_settings=None, metadata_directory=None):

@@ -40,18 +40,34 @@ for name in python3 python3.{8..20} "${PYENV_ROOT:-${HOME-}/.pyenv}"/versions/3.
     [ "${version#*.}" -lt 8 ] || interpreters[$version]=${interpreters[$version]-$name}
 done
 
+# The package's extension, one file for each interpreter from 3.10 on. It is compiled by the newest, whose headers have to be there.
+extension=$work/_extension.abi3.so
+newest=$(printf '%s\n' "${!interpreters[@]}" | sort -V | tail -n 1)
+if ! "${interpreters[$newest]}" "$top/python/extension/build.py" "$extension" 2>"$work/said"; then
+    echo "not tried: the extension of the Python package: $(cat "$work/said")"
+    extension=no
+fi
+
+# Runs the tests by an interpreter, which calls the library by the extension or, where that is `no`, by ctypes.
 run_tests() {
     cd "$top/python" || return
-    FOWLYORE_LIBRARY=$library "$2" -W error -m unittest discover -q -t . -s tests >"$work/said-$1" 2>&1
+    FOWLYORE_EXTENSION=$3 FOWLYORE_LIBRARY=$library "$2" -W error -m unittest discover -q -t . -s tests >"$work/said-$1" 2>&1
 }
 
-# Interpreters work side by side.
+# Interpreters work side by side, and the newest by ctypes too.
 for version in "${!interpreters[@]}"; do
-    run_tests "$version" "${interpreters[$version]}" &
+    way=$extension
+    [ "${version#*.}" -ge 10 ] || way=no
+    run_tests "$version" "${interpreters[$version]}" "$way" &
 done
+runs=("${!interpreters[@]}")
+if [ "$extension" != no ]; then
+    runs+=("$newest by ctypes")
+    run_tests "$newest by ctypes" "${interpreters[$newest]}" no &
+fi
 wait
 
-for version in "${!interpreters[@]}"; do
+for version in "${runs[@]}"; do
     said=$work/said-$version
     count=$(sed -n 's/^Ran \([0-9]*\) tests\? .*/\1/p' "$said")
     skipped=$(sed -n 's/^OK (.*skipped=\([0-9]*\).*/\1/p' "$said")

@@ -34,7 +34,7 @@ FOLDERS = (
     ("Tools", "tools/*", "share/*.py"),
     ("Measuring", "bench/*.py"),
     ("Examples", "examples/index/*.py"),
-    ("The package for Python", "python/*.py", "python/fowlyore/*.py", "python/tests/*.py"),
+    ("The package for Python", "python/*.py", "python/fowlyore/*.py", "python/tests/*.py", "python/extension/*"),
     ("The crate for Rust", "rust/fowlyore/build.rs", "rust/fowlyore/src/*.rs", "rust/fowlyore/tests/*.rs"),
 )
 SENTENCE = re.compile(r'(.+?[.:])(?=\s+[A-Z`"(*]|$)')
@@ -58,7 +58,7 @@ def head(path, text):
         return marked(lines, MARKS[end])
     if end == ".py":
         return (ast.get_docstring(ast.parse(text)) or "").split("\n\n")[0].replace("\n", " ")
-    if end == ".c":
+    if end in (".c", ".h"):
         said = re.match(r"/\*\s*(.*?)(?:\*/|\n\s*\*?\s*\n)", text, re.S)
         return " ".join(re.sub(r"^\s*\* ?", "", it) for it in said[1].splitlines()).strip() if said else ""
     return marked(lines, "#")

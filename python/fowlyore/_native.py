@@ -1,13 +1,20 @@
-"""The C library `libreqs`, by ctypes: bytes go in, and bytes or a `Fault` come out. It keeps nothing between
-calls.
+"""The C library `libreqs`: bytes go in, and bytes or a `Fault` come out. It keeps nothing between calls.
 
-Calls on one version or specifier hold the interpreter's lock, since releasing it costs as much as they do;
-all others release it."""
+It is called by the extension `fowlyore._extension` where there is one for this interpreter, and otherwise by
+ctypes, with the same answers. ctypes loads it for both, so that a process has one library.
 
+Calls on one version or specifier hold the interpreter's lock, since releasing it costs as much as they do, and
+the extension holds it for each other call that takes time linear in short texts; all others release it."""
+
+import _thread
 import ctypes
+import functools
+import importlib
 import os
 import sys
-from typing import Any, List, NamedTuple, Optional, Tuple
+import threading
+import types
+from typing import Any, Callable, Dict, List, NamedTuple, NoReturn, Optional, Tuple
 
 ABI = 2
 ANSWERED, DIFFERENT, REFUSED, MEMORY = 0, 1, 2, 3
@@ -19,6 +26,10 @@ NEVER_HOLDS = "no normal text: never holds"
 ROOM = 4096
 # How much more is given for an answer about many environments before its length is known.
 MOST_ROOM = 1 << 26
+# The bytes of texts from which on a call may take long: one that takes time linear in them, or nearly so, and any other.
+LONG_TEXTS, LONG_MARKERS = 1 << 16, 384
+# The bytes of a thread's stack that a call needs.
+STACK = 1 << 19
 
 
 class Reply(ctypes.Structure):
@@ -37,13 +48,18 @@ class Reply(ctypes.Structure):
 class Fault(Exception):
     """A call that was refused: the reason, the number of the input, and the place, in bytes of the line."""
 
-    def __init__(self, message: str, reply: Reply) -> None:
+    def __init__(self, message: str, input: int, line: int, start: int, length: int) -> None:
         super().__init__(message)
         self.message = message
-        self.input: int = reply.input
-        self.line: int = reply.line
-        self.start: int = reply.start
-        self.length: int = reply.len
+        self.input = input
+        self.line = line
+        self.start = start
+        self.length = length
+
+
+def refuse(reason: bytes, input: int, line: int, start: int, length: int) -> NoReturn:
+    """Raises the fault of a call that was refused."""
+    raise Fault(reason.decode("utf-8", "replace"), input, line, start, length)
 
 
 # Buffers of ROOM bytes that no call uses. Each call takes one and gives it back once its answer is read, so that no other
@@ -61,9 +77,11 @@ def path() -> str:
     """The path of the library: next to this module, unless FOWLYORE_LIBRARY names another one. An interpreter
     that was started with `-I` or `-E` ignores environment variables, and so does this."""
     beside = os.path.join(os.path.dirname(os.path.abspath(__file__)), "libreqs.so")
-    if sys.flags.isolated or sys.flags.ignore_environment:
-        return beside
-    return os.environ.get("FOWLYORE_LIBRARY") or beside
+    return beside if _ignores_environment() else os.environ.get("FOWLYORE_LIBRARY") or beside
+
+
+def _ignores_environment() -> bool:
+    return bool(sys.flags.isolated or sys.flags.ignore_environment)
 
 
 def _load(kind: Any) -> Any:
@@ -76,9 +94,13 @@ def _load(kind: Any) -> Any:
 _short, _long = _load(ctypes.PyDLL), _load(ctypes.CDLL)
 
 
+# The functions of the library, as ctypes calls them.
+DECLARED: Dict[str, Any] = {}
+
+
 def _declare(library: Any, name: str, result: Any, texts: int, limit: bool = False, out: bool = True) -> Any:
     """A function of the library with its types. Bytes are passed as they are, without a copy."""
-    call = library[name]
+    call = DECLARED[name] = library[name]
     call.restype = result
     call.argtypes = [ctypes.c_char_p, ctypes.c_size_t] * texts
     call.argtypes += [ctypes.c_uint64] * limit + [ctypes.c_void_p, ctypes.c_size_t] * out
@@ -89,36 +111,137 @@ if _declare(_short, "reqs_abi", ctypes.c_uint32, 0, out=False)() != ABI:
     raise ImportError(f"{path()} has another interface than fowlyore wants", name="fowlyore", path=path())
 
 version_key_call = _declare(_short, "reqs_version_key", ctypes.c_int64, 1)
-_version = _declare(_short, "reqs_version", Reply, 1)
-_specifiers = _declare(_short, "reqs_specifiers", Reply, 1)
-_take_one = _declare(_short, "reqs_specifiers_take", Reply, 2)
-_take = _declare(_long, "reqs_specifiers_take", Reply, 2)
-_requirement = _declare(_long, "reqs_requirement", Reply, 1)
-_marker = _declare(_long, "reqs_marker", Reply, 1)
-_marker_key = _declare(_long, "reqs_marker_key", Reply, 1)
-_marker_truth = _declare(_long, "reqs_marker_truth", Reply, 1)
-_markers_disjoint = _declare(_long, "reqs_markers_disjoint", Reply, 2)
-_marker_implies = _declare(_long, "reqs_marker_implies", Reply, 2)
-_marker_negated = _declare(_long, "reqs_marker_negated", Reply, 1)
-_marker_simplify_python = _declare(_long, "reqs_marker_simplify_python", Reply, 3)
-_marker_simplify_extras = _declare(_long, "reqs_marker_simplify_extras", Reply, 2)
-_specifiers_disjoint = _declare(_long, "reqs_specifiers_disjoint", Reply, 2)
-_specifiers_subset = _declare(_long, "reqs_specifiers_subset", Reply, 2)
-_specifiers_empty = _declare(_long, "reqs_specifiers_empty", Reply, 1)
-_markers_hold = _declare(_long, "reqs_markers_hold", Reply, 3)
-_check = _declare(_long, "reqs_check", Reply, 4)
-_matrix = _declare(_long, "reqs_matrix", Reply, 4, limit=True)
-_same = _declare(_long, "reqs_same", Reply, 2, limit=True)
-_conflicts = _declare(_long, "reqs_conflicts", Reply, 1, limit=True)
-_normal = _declare(_long, "reqs_normal", Reply, 1)
 
 
-def encoded(text: str) -> bytes:
-    """UTF-8, except that a lone surrogate is encoded too: the library then reports that this is not UTF-8."""
+def _extension_module() -> Any:
+    """The extension's module, or None where ctypes is to call: where the package has none that is for this
+    interpreter, or FOWLYORE_EXTENSION is `no`. That variable may also name a file of it. Raises ImportError if
+    that can't be loaded."""
+    named = "" if _ignores_environment() else os.environ.get("FOWLYORE_EXTENSION", "")
+    if named == "no" or not named and sys.version_info < (3, 10):
+        return None
+    try:
+        module = _module_of(named) if named else importlib.import_module("fowlyore._extension")
+        calls = (_declare(_short, name, Reply, 1) for name in ("reqs_version", "reqs_specifiers"))
+        # (which fails where another interpreter of this process has had it call another library)
+        module.load(ABI, _address(version_key_call), *map(_address, calls))
+    except ImportError:
+        if named:
+            raise
+        return None
+    return module
+
+
+def _module_of(file: str) -> Any:
+    import importlib.util
+
+    spec = importlib.util.spec_from_file_location("fowlyore._extension", file)
+    if spec is None or spec.loader is None or sys.version_info < (3, 10):
+        raise ImportError(f"{file} is no extension for this interpreter", name="fowlyore", path=file)
+    module = importlib.util.module_from_spec(spec)
+    spec.loader.exec_module(module)
+    return module
+
+
+def _address(function: Any) -> Optional[int]:
+    return ctypes.cast(function, ctypes.c_void_p).value
+
+
+extension = _extension_module()
+
+
+def how() -> str:
+    """What calls the library: `extension` or `ctypes`."""
+    return "ctypes" if extension is None else "extension"
+
+
+def of_the_extension(written: type, without: Tuple[str, ...] = (), **others: Any) -> Any:
+    """A class of the extension, with all that it hasn't taken from the class of that name that is written in Python.
+    There it also finds, as `_written_init` and so on, what it leaves the rare cases to. Slots `without` which it does
+    are not taken, and `others` stand in place of what is written."""
+    base = getattr(extension, written.__name__)
+    kept = {name for name in vars(base) if name not in ("__doc__", "__module__")} | {"__weakref__"}
+    slots = {name for name, it in vars(written).items() if isinstance(it, types.MemberDescriptorType)}
+    rest = {**{name: it for name, it in vars(written).items() if name not in kept | slots}, **others}
+    if "__hash__" in kept:
+        # (a class that has `__eq__` alone isn't hashed)
+        rest["__hash__"] = base.__hash__
+    rare = {f"_written_{name}": vars(written)[f"__{name}__"] for name in ("init", "eq", "and") if f"__{name}__" in vars(written)}
+    return type(written.__name__, (base,), {**rest, **rare, "__slots__": tuple(slots - kept - set(without))})
+
+
+def instead_of(name: str, written: Any) -> Any:
+    """A function of the extension, which leaves what is rare to the one that is written in Python; or that one,
+    where there is no extension."""
+    return written if extension is None else extension.instead(name, written)
+
+
+def _call(
+    name: str, texts: int, limit: bool = False, short: bool = False, linear: bool = False, long: Optional[int] = None
+) -> Callable[..., bytes]:
+    """A function of the library, which is given so many texts, and as `limit` a number if there is one, and returns
+    its answer. `size` may be given too: the room for the answer at first, which is enough for most.
+
+    `short` is one on single versions and specifiers, and `linear` one that takes time linear in its texts. From `long` bytes
+    of texts on it can be interrupted."""
+    function = _declare(_short if short else _long, name, Reply, texts, limit)
+    made: Callable[..., bytes] = functools.partial(_answer, function)
+    if extension is not None:
+        made = extension.call(_address(function), texts, limit, short or linear)
+    return made if long is None else _interruptible(made, long)
+
+
+def _interruptible(call: Callable[..., bytes], long: int) -> Callable[..., bytes]:
+    """The same call, which on long texts is made in a thread of its own where this is the main thread. This one waits for it,
+    and meanwhile Python's handlers of signals run here: one that raises, as for Ctrl-C does `KeyboardInterrupt`, ends the
+    waiting. The call then goes on until it returns, and its answer is dropped; it keeps no process from ending."""
+
+    def called(*texts: bytes, **words: Any) -> bytes:
+        if sum(map(len, texts)) < long or not _is_main_thread():
+            return call(*texts, **words)
+        return _called_beside(lambda: call(*texts, **words))
+
+    return called
+
+
+def _is_main_thread() -> bool:
+    # (a thread whose stack was said to be small can't make the call)
+    return threading.current_thread() is threading.main_thread() and not 0 < threading.stack_size() < STACK
+
+
+def _called_beside(call: Callable[[], bytes]) -> bytes:
+    answers: List[bytes] = []
+    errors: List[BaseException] = []
+    running = _thread.allocate_lock()
+
+    def run() -> None:
+        try:
+            answers.append(call())
+        except BaseException as error:
+            errors.append(error)
+        finally:
+            running.release()
+
+    running.acquire()
+    try:
+        _thread.start_new_thread(run, ())
+    except RuntimeError:  # there may be no more threads
+        return call()
+    running.acquire()
+    if errors:
+        raise errors.pop()
+    return answers.pop()
+
+
+def _encoded(text: str) -> bytes:
     try:
         return text.encode()
     except UnicodeEncodeError:
         return text.encode("utf-8", "surrogatepass")
+
+
+# UTF-8, except that a lone surrogate is encoded too: the library then reports that this is not UTF-8.
+encoded: Callable[[str], bytes] = _encoded if extension is None else extension.encoded
 
 
 def _ask(call: Any, texts: Tuple[bytes, ...], limit: Optional[int] = None, size: int = ROOM) -> Tuple[Reply, bytes]:
@@ -151,8 +274,32 @@ def _answer(call: Any, *texts: bytes, limit: Optional[int] = None, size: int = R
     if reply.status == MEMORY:
         raise MemoryError("libreqs")
     if reply.status == REFUSED:
-        raise Fault(text.decode("utf-8", "replace"), reply)
+        refuse(text, reply.input, reply.line, reply.start, reply.len)
     return text
+
+
+_version = _call("reqs_version", 1, short=True)
+_specifiers = _call("reqs_specifiers", 1, short=True)
+_take_one = _call("reqs_specifiers_take", 2, short=True)
+_take = _call("reqs_specifiers_take", 2, linear=True, long=LONG_TEXTS)
+_requirement = _call("reqs_requirement", 1, linear=True)
+_marker = _call("reqs_marker", 1, long=LONG_MARKERS)
+_marker_key = _call("reqs_marker_key", 1, long=LONG_MARKERS)
+_marker_truth = _call("reqs_marker_truth", 1, long=LONG_MARKERS)
+_markers_disjoint = _call("reqs_markers_disjoint", 2, long=LONG_MARKERS)
+_marker_implies = _call("reqs_marker_implies", 2, long=LONG_MARKERS)
+_marker_negated = _call("reqs_marker_negated", 1, long=LONG_MARKERS)
+_marker_simplify_python = _call("reqs_marker_simplify_python", 3, long=LONG_MARKERS)
+_marker_simplify_extras = _call("reqs_marker_simplify_extras", 2, long=LONG_MARKERS)
+_specifiers_disjoint = _call("reqs_specifiers_disjoint", 2, long=LONG_TEXTS)
+_specifiers_subset = _call("reqs_specifiers_subset", 2, long=LONG_TEXTS)
+_specifiers_empty = _call("reqs_specifiers_empty", 1, long=LONG_TEXTS)
+_markers_hold = _call("reqs_markers_hold", 3, linear=True)
+_check = _call("reqs_check", 4, long=LONG_TEXTS)
+_matrix = _call("reqs_matrix", 4, limit=True, long=LONG_MARKERS)
+_same = _call("reqs_same", 2, limit=True, long=LONG_MARKERS)
+_conflicts = _call("reqs_conflicts", 1, limit=True, long=LONG_MARKERS)
+_normal = _call("reqs_normal", 1, long=LONG_MARKERS)
 
 
 def lines_of(answer: str) -> List[str]:
@@ -184,38 +331,38 @@ def long_version_key(text: bytes) -> Optional[bytes]:
 
 def version(text: bytes) -> str:
     """A version's normal text."""
-    return _answer(_version, text).decode()
+    return _version(text).decode()
 
 
 def specifiers(text: bytes) -> List[str]:
     """The texts of a list's members."""
-    return lines_of(_answer(_specifiers, text).decode())
+    return lines_of(_specifiers(text).decode())
 
 
 def take_one(specifiers: bytes, version: bytes) -> bytes:
     """`1` if the list accepts the version, `0` if it doesn't, `?` if that is not a version."""
-    return _answer(_take_one, specifiers, version + b"\n")
+    return _take_one(specifiers, version + b"\n")
 
 
 def take(specifiers: bytes, versions: bytes) -> bytes:
     """For each line of `versions` `1` if the list accepts the version, `0` if it doesn't, `?` if the line is
     not a version."""
-    return _answer(_take, specifiers, versions, size=len(versions))
+    return _take(specifiers, versions, size=len(versions))
 
 
 def disjoint(left: bytes, right: bytes) -> bool:
     """Whether the ranges of both lists are disjoint: no point is in both."""
-    return _answer(_specifiers_disjoint, left, right) == b"1"
+    return _specifiers_disjoint(left, right) == b"1"
 
 
 def subset(left: bytes, right: bytes) -> bool:
     """Whether the left list's range is a subset of the right one's: each of its points is in that."""
-    return _answer(_specifiers_subset, left, right) == b"1"
+    return _specifiers_subset(left, right) == b"1"
 
 
 def empty(specifiers: bytes) -> bool:
     """Whether the list's range is empty: no point is in it."""
-    return _answer(_specifiers_empty, specifiers) == b"1"
+    return _specifiers_empty(specifiers) == b"1"
 
 
 class RequirementParts(NamedTuple):
@@ -231,7 +378,7 @@ class RequirementParts(NamedTuple):
 
 def requirement(text: bytes) -> RequirementParts:
     """A requirement's parts."""
-    name, extras, specifiers, url, place = _answer(_requirement, text).decode().split("\n", 4)
+    name, extras, specifiers, url, place = _requirement(text).decode().split("\n", 4)
     return RequirementParts(name, extras, specifiers, url, _standing_at(text, place))
 
 
@@ -246,73 +393,73 @@ def _standing_at(text: bytes, place: str) -> Optional[str]:
 
 def marker(text: bytes) -> str:
     """A marker's normal text, which is empty if it always holds. Raises `Fault` if it has none."""
-    return _answer(_marker, text).decode()
+    return _marker(text).decode()
 
 
 def marker_key(text: bytes) -> bytes:
     """A marker's key, which markers with the same meaning have in common."""
-    return _answer(_marker_key, text)
+    return _marker_key(text)
 
 
 def marker_truth(text: bytes) -> bytes:
     """`1` if the marker always holds, `0` if it never does, and otherwise `-`."""
-    return _answer(_marker_truth, text)
+    return _marker_truth(text)
 
 
 def markers_disjoint(left: bytes, right: bytes) -> bool:
     """Whether the two markers never hold together."""
-    return _answer(_markers_disjoint, left, right) == b"1"
+    return _markers_disjoint(left, right) == b"1"
 
 
 def marker_implies(left: bytes, right: bytes) -> bool:
     """Whether the right marker holds wherever the left one does."""
-    return _answer(_marker_implies, left, right) == b"1"
+    return _marker_implies(left, right) == b"1"
 
 
 def marker_negated(text: bytes) -> str:
     """The normal text of the marker's negation, which holds where the marker doesn't."""
-    return _answer(_marker_negated, text).decode()
+    return _marker_negated(text).decode()
 
 
 def marker_simplify_python(text: bytes, lower: bytes, upper: bytes) -> str:
     """The normal text of a marker, simplified for a `python_full_version` that is at least `lower` and below
     `upper`; an empty text is no bound."""
-    return _answer(_marker_simplify_python, text, lower, upper).decode()
+    return _marker_simplify_python(text, lower, upper).decode()
 
 
 def marker_simplify_extras(text: bytes, extras: bytes) -> str:
     """The normal text of a marker, simplified for the presence of the extras, one per line."""
-    return _answer(_marker_simplify_extras, text, extras).decode()
+    return _marker_simplify_extras(text, extras).decode()
 
 
 def markers_hold(markers: bytes, environment: bytes, extras: bytes) -> bytes:
     """For each line of `markers` `1` if it holds, `0` if it doesn't, `?` if the line is not a marker."""
-    return _answer(_markers_hold, markers, environment, extras, size=len(markers))
+    return _markers_hold(markers, environment, extras, size=len(markers))
 
 
 def check(requirements: bytes, environment: bytes, candidates: bytes, extras: bytes) -> str:
     """What `reqs check` prints."""
     size = _size_for(requirements)
-    return _answer(_check, requirements, environment, candidates, extras, size=size).decode()
+    return _check(requirements, environment, candidates, extras, size=size).decode()
 
 
 def matrix(requirements: bytes, environments: bytes, candidates: bytes, extras: bytes, limit: int) -> str:
     """What `reqs matrix` prints."""
     # (each environment has this member, and a row is seldom longer than the line that asks for it)
     size = ROOM + min(len(requirements) * environments.count(b'"sys_platform"'), MOST_ROOM)
-    return _answer(_matrix, requirements, environments, candidates, extras, limit=limit, size=size).decode()
+    return _matrix(requirements, environments, candidates, extras, limit=limit, size=size).decode()
 
 
 def same(left: bytes, right: bytes, limit: int) -> str:
     """What `reqs same` prints."""
-    return _answer(_same, left, right, limit=limit).decode()
+    return _same(left, right, limit=limit).decode()
 
 
 def conflicts(requirements: bytes, limit: int) -> str:
     """What `reqs conflicts` prints."""
-    return _answer(_conflicts, requirements, limit=limit, size=_size_for(requirements)).decode()
+    return _conflicts(requirements, limit=limit, size=_size_for(requirements)).decode()
 
 
 def normal(requirements: bytes) -> str:
     """What `reqs normal` prints."""
-    return _answer(_normal, requirements, size=_size_for(requirements)).decode()
+    return _normal(requirements, size=_size_for(requirements)).decode()

@@ -2,6 +2,7 @@
 
 import functools
 import json
+import operator
 import os
 import platform
 import re
@@ -73,12 +74,54 @@ def default_environment() -> Dict[str, str]:
 
 # What the library reads of an environment.
 MEMBERS = frozenset(default_environment())
+_NAMES = tuple(MEMBERS)
+# The functions that `default_environment` calls, directly or not, by their names in `platform`.
+_FUNCTIONS = operator.itemgetter(
+    "machine", "python_implementation", "python_version", "python_version_tuple", "release", "system", "uname", "version", "_sys_version"
+)  # fmt: skip
+
+
+def _own_functions() -> Optional[Tuple[Any, ...]]:
+    """These functions, or None if one of them is not there or was replaced."""
+    try:
+        found: Tuple[Any, ...] = (default_environment, *_FUNCTIONS(vars(platform)))
+    except KeyError:
+        return None
+    return found if all(getattr(it, "__module__", None) in ("platform", __name__) for it in found) else None
+
+
+_OWN = _own_functions()
+
+
+def _made_of() -> Optional[Tuple[Any, ...]]:
+    """All that the running interpreter's environment is made of; None if a function was replaced, which may return
+    another value each time."""
+    known = vars(platform)
+    if _OWN is None or (default_environment, *_FUNCTIONS(known)) != _OWN or known.get("_uname_cache") is None:
+        return None
+    implementation = sys.implementation
+    return os.name, sys.platform, sys.version, implementation.name, implementation.version, known["_uname_cache"]
+
+
+# What an environment was made of, and the environment.
+_kept_running: Tuple[Optional[Tuple[Any, ...]], Dict[str, str]] = (None, {})
+
+
+def _running() -> Dict[str, str]:
+    """The running interpreter's environment, not to be changed: the one made before, if what it was made of is the
+    same."""
+    global _kept_running
+    made_of, environment = _made_of(), _kept_running[1]
+    if made_of is None or made_of != _kept_running[0]:
+        environment = default_environment()
+        _kept_running = _made_of(), environment
+    return environment
 
 
 def completed(given: Optional[Mapping[str, Any]]) -> Dict[str, Any]:
     """The running interpreter's environment with other values put in. Markers read only
     `python_full_version`, so that it follows `python_version` if only that is given."""
-    environment: Dict[str, Any] = dict(default_environment())
+    environment: Dict[str, Any] = dict(_running())
     if given is not None:
         environment.update(given)
         if "python_version" in given and "python_full_version" not in given:
@@ -86,9 +129,27 @@ def completed(given: Optional[Mapping[str, Any]]) -> Dict[str, Any]:
     return environment
 
 
+# The JSON of environments by the values of their members, which are all texts, and how many are kept.
+_kept_json: Dict[Tuple[Any, ...], bytes] = {}
+_MOST_KEPT = 64
+
+
 def environment_json(environment: Mapping[str, Any]) -> bytes:
     """The JSON that the library reads of an environment: its members as they are, except that
     `python_full_version` is `full_version_read`."""
+    values = tuple(map(environment.get, _NAMES))
+    if set(map(type, values)) != {str}:
+        return _json_of(environment)
+    made = _kept_json.get(values)
+    if made is None:
+        made = _json_of(environment)
+        if len(_kept_json) >= _MOST_KEPT:
+            _kept_json.clear()
+        _kept_json[values] = made
+    return made
+
+
+def _json_of(environment: Mapping[str, Any]) -> bytes:
     values = {key: value for key, value in environment.items() if key in MEMBERS}
     full = values.get("python_full_version")
     if isinstance(full, str):
@@ -130,6 +191,8 @@ class _Shape(NamedTuple):
 
 
 def _shape_of(text: str) -> _Shape:
+    if "(" not in text and "or" not in text:
+        return _Shape(False, 0)
     has_or, depth, deepest = False, 0, 0
     for it in _PIECE.findall(text):
         depth += (it == "(") - (it == ")")
@@ -159,7 +222,7 @@ class Marker:
     "python_full_version >= '3.8' and os_name == 'nt'"
     """
 
-    __slots__ = ("_given", "_truth", "_key", "_text", "_shape", "__weakref__")
+    __slots__ = ("_given", "_truth", "_key", "_text", "_shape", "_found_shape", "__weakref__")
 
     _given: str
     _truth: Optional[bytes]
@@ -167,6 +230,7 @@ class Marker:
     _text: Optional[str]
     # (of what `&` and `|` made alone)
     _shape: Optional[_Shape]
+    _found_shape: Optional[_Shape]
 
     def __init__(self, marker: str) -> None:
         if not isinstance(marker, str):
@@ -182,6 +246,7 @@ class Marker:
     def _set(self, given: str, truth: Optional[bytes] = None, shape: Optional[_Shape] = None) -> None:
         self._given, self._truth, self._shape = given, truth, shape
         self._key = self._text = None
+        self._found_shape = shape
 
     def __reduce__(self) -> "Tuple[type, Tuple[str]]":
         return self.__class__, (self._given,)
@@ -302,10 +367,12 @@ class Marker:
         """Whether it always holds, and perhaps because none of its comparisons means anything: by itself such
         a marker holds, but `and` and `or` ignore it. What `&` and `|` made has a comparison that means
         something."""
-        return self._shape is None and self.is_true()
+        return self._shape is None and self._constant() == b"1"
 
     def _shaped(self) -> _Shape:
-        return _shape_of(self._given) if self._shape is None else self._shape
+        if self._found_shape is None:
+            self._found_shape = _shape_of(self._given)
+        return self._found_shape
 
     def _as_term(self) -> Tuple[str, int]:
         """Its text as a term of `and`, and how deep brackets are nested there. If they would be too deep it
@@ -379,8 +446,9 @@ class Marker:
         True
         """
         values = completed(environment)
-        extra = values.get("extra") or ""
-        return holds([self], values, [extra] if extra else [])[0]
+        extra = values.get("extra")
+        names = _native.encoded(_lines_of([extra])) if extra else b""
+        return _answers([self], f"{self._given}\n", values, names) == b"1"
 
 
 def marker_of(text: str, shape: Optional[_Shape] = None) -> Marker:
@@ -405,11 +473,16 @@ def _lines_of(extras: Iterable[str]) -> str:
 def holds(markers: List[Marker], environment: Mapping[str, Any], extras: List[str]) -> List[bool]:
     """Whether each marker holds in an environment with extras, by one call."""
     names = _native.encoded(_lines_of(extras))
-    lines = _native.encoded("".join(f"{it._given}\n" for it in markers))
+    answers = _answers(markers, "".join(f"{it._given}\n" for it in markers), environment, names)
+    return [it == ord("1") for it in answers]
+
+
+def _answers(markers: List[Marker], lines: str, environment: Mapping[str, Any], names: bytes) -> bytes:
+    """The library's answers on markers, which stand in these lines too."""
     try:
-        answers = _native.markers_hold(lines, environment_json(environment), names)
+        answers = _native.markers_hold(_native.encoded(lines), environment_json(environment), names)
     except _native.Fault as fault:
         raise UndefinedEnvironmentName(fault.message) from None
     if b"?" in answers:
         raise AssertionError(f"{markers[answers.index(b'?')]._given!r} is a marker and none")
-    return [it == ord("1") for it in answers]
+    return answers

@@ -80,6 +80,10 @@ def _is_prerelease(version: UnparsedVersion) -> bool:
     return is_prerelease(text_of(version))
 
 
+_lines = _native.instead_of("lines", _lines)
+_is_prerelease = _native.instead_of("is_prerelease", _is_prerelease)
+
+
 def _of_ranges(call: Callable[..., bool], *given: "Ranged") -> bool:
     """The answer of a call on specifiers as ranges. Raises `InvalidSpecifier` for one without a range."""
     lists = [SpecifierSet(it) if isinstance(it, str) else it for it in given]
@@ -224,6 +228,10 @@ class Specifier:
         (True, False)
         """
         return _of_ranges(_native.subset, self, other)
+
+
+if _native.extension is not None:
+    Specifier = _native.of_the_extension(Specifier)  # type: ignore[misc]
 
 
 def _shown(prereleases: Optional[bool]) -> str:
@@ -381,3 +389,7 @@ class SpecifierSet:
         (True, False)
         """
         return _of_ranges(_native.empty, self)
+
+
+if _native.extension is not None:
+    SpecifierSet = _native.of_the_extension(SpecifierSet)  # type: ignore[misc]

@@ -52,6 +52,9 @@ class Version:
     and hashed; comparing needs no call. Its text and its parts are computed on first use. Raises
     `InvalidVersion` for a text that is not a version.
 
+    What is written here is used where ctypes calls the library. Otherwise the extension has the same making,
+    comparing, text and parts, and what it has not is taken from here.
+
     >>> Version("1.0a5") < Version("1.0") == Version("1.0.0")
     True
     >>> version = Version("1!2.3-rc.4")
@@ -83,6 +86,10 @@ class Version:
         else:
             self._key = _long_key(version, text)
         self._given = version
+
+    def _refuse(self, version: str) -> None:
+        """Raises the error for what is no version."""
+        raise _refusal(version, _bytes_of(version))
 
     def __repr__(self) -> str:
         return f"<Version('{self}')>"
@@ -229,13 +236,17 @@ def _long_key(version: str, text: bytes) -> bytes:
     """The key of a version for which a buffer is too short. Raises `InvalidVersion` for a text that is not a
     version."""
     key = _native.long_version_key(text)
-    if key is not None:
-        return key
+    if key is None:
+        raise _refusal(version, text)
+    return key
+
+
+def _refusal(version: str, text: bytes) -> InvalidVersion:
+    """The error for a text that is not a version."""
     try:
         _native.version(text)
     except _native.Fault as fault:
-        message = f"Invalid version: {version!r}: {fault.message}"
-        raise refusal(InvalidVersion, fault, version, message) from None
+        return refusal(InvalidVersion, fault, version, f"Invalid version: {version!r}: {fault.message}")
     raise AssertionError(f"{version!r} has a normal text and no key")
 
 
@@ -268,3 +279,13 @@ def text_of(version: object) -> str:
         text = version.strip(" \t\n\r\f")
         return str(Version(version)) if "\n" in text else text
     raise TypeError(f"a version is read from a str, not from {type(version).__name__}")
+
+
+def _parts_by_name(version: Version) -> Parts:
+    return Parts(version.epoch, version.release, version.pre, version.post, version.dev, version.local)
+
+
+text_of = _native.instead_of("text_of", text_of)
+if _native.extension is not None:
+    # (it keeps its text and its parts by itself)
+    Version = _native.of_the_extension(Version, ("_normal", "_read"), _parts=property(_parts_by_name))  # type: ignore[misc]

@@ -35,9 +35,9 @@ def prototypes():
 @unittest.skipUnless(HEADER.exists(), "there is no include/reqs.h")
 class Header(unittest.TestCase):
     def test_each_function(self):
-        called = {it.__name__: it for it in vars(_native).values() if hasattr(it, "argtypes") and hasattr(it, "__name__")}
+        called = _native.DECLARED
         found = dict((name, (result, types)) for name, result, types in prototypes())
-        self.assertEqual(set(found) - set(called), UNUSED | {"reqs_abi"})
+        self.assertEqual(set(found) - set(called), UNUSED)
         for name, call in called.items():
             self.assertEqual((call.restype, list(call.argtypes or [])), found[name], name)
 

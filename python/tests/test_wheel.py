@@ -85,7 +85,10 @@ class Wheel(unittest.TestCase):
         tags = {f"{python}-{abi}-{platform}" for python in pythons for abi in abis for platform in platforms}
         said = email.message_from_bytes(self.wheel.read(f"{self.information}/WHEEL")).get_all("Tag")
         self.assertEqual(sorted(said), sorted(tags))
-        self.assertIn(f"pip install {self.name}\n", PAGE)
+        if backend.extension():
+            self.assertIn(f"pip install {self.name}\n", PAGE)
+            self.assertLessEqual({f"{tag}-{platforms[0]}" for tag in ("cp310-abi3", "py3-none")}, tags)
+            self.assertEqual(self.wheel.read("fowlyore/_extension.abi3.so")[:4], b"\x7fELF")
 
     def test_no_toolchain(self):
         """One sentence says what to install instead, and nothing is left of a wheel."""

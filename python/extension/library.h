@@ -1,0 +1,205 @@
+/* What the extension of the Python package calls libreqs by: the bytes of texts, and calls that answer with
+ * bytes or raise, over the limited API of Python 3.10. */
+#pragma once
+#define Py_LIMITED_API 0x030a0000
+#define PY_SSIZE_T_CLEAN
+#include <Python.h>
+#include <stdint.h>
+#include <stdlib.h>
+#include <string.h>
+#include <structmember.h>
+
+#include "reqs.h"
+
+enum {
+    ROOM = 4096,      /* the bytes of an answer that needs no second call and no memory of its own */
+    LONG_CALL = 8192, /* the bytes of texts from which on a quick call lets go of the interpreter's lock */
+    OWN = 56,         /* the bytes of a key that stands in its version */
+    SHORT = 255,      /* the bytes of a version or a specifier that is copied */
+    MOST_TEXTS = 4,
+};
+
+/* ---- texts */
+
+/* The bytes of a str or of bytes. They stand in the object that was given, or in `kept`. */
+typedef struct {
+    const uint8_t *at;
+    size_t len;
+    PyObject *kept;
+} Text;
+
+static void text_close(Text *text) { Py_CLEAR(text->kept); }
+
+static int text_of_bytes(PyObject *given, Text *text) {
+    char *at;
+    Py_ssize_t len;
+    if (PyBytes_AsStringAndSize(given, &at, &len)) return -1;
+    text->at = (const uint8_t *)at;
+    text->len = (size_t)len;
+    return 0;
+}
+
+/* UTF-8, except that a lone surrogate is encoded too: the library then reports that this is not UTF-8. */
+static PyObject *encoded(PyObject *module, PyObject *given) {
+    (void)module;
+    if (!PyUnicode_Check(given)) return PyObject_CallMethod(given, "encode", NULL);
+    PyObject *bytes = PyUnicode_AsUTF8String(given);
+    if (bytes || !PyErr_ExceptionMatches(PyExc_UnicodeEncodeError)) return bytes;
+    PyErr_Clear();
+    return PyUnicode_AsEncodedString(given, "utf-8", "surrogatepass");
+}
+
+static int text_of(PyObject *given, Text *text) {
+    text->kept = NULL;
+    if (PyBytes_Check(given)) return text_of_bytes(given, text);
+    if (PyUnicode_Check(given)) {
+        Py_ssize_t len;
+        const char *at = PyUnicode_AsUTF8AndSize(given, &len);
+        if (at) {
+            text->at = (const uint8_t *)at;
+            text->len = (size_t)len;
+            return 0;
+        }
+        PyErr_Clear();
+    }
+    text->kept = encoded(NULL, given);
+    return text->kept ? text_of_bytes(text->kept, text) : -1;
+}
+
+/* ---- the library's calls */
+
+typedef const uint8_t *At;
+typedef reqs_reply Of1(At, size_t, uint8_t *, size_t);
+typedef reqs_reply Of2(At, size_t, At, size_t, uint8_t *, size_t);
+typedef reqs_reply Of3(At, size_t, At, size_t, At, size_t, uint8_t *, size_t);
+typedef reqs_reply Of4(At, size_t, At, size_t, At, size_t, At, size_t, uint8_t *, size_t);
+typedef reqs_reply Limited1(At, size_t, uint64_t, uint8_t *, size_t);
+typedef reqs_reply Limited2(At, size_t, At, size_t, uint64_t, uint8_t *, size_t);
+typedef reqs_reply Limited4(At, size_t, At, size_t, At, size_t, At, size_t, uint64_t, uint8_t *, size_t);
+
+typedef struct {
+    uintptr_t address;
+    int texts;   /* how many it is given */
+    int limited; /* whether a limit follows them */
+    int quick;   /* whether it takes time linear in its texts */
+} Call;
+
+#define TEXT(it) t[it].at, t[it].len
+
+static reqs_reply reply_of(const Call *call, const Text *t, uint64_t limit, uint8_t *out, size_t room) {
+    uintptr_t it = call->address;
+    switch (call->texts * 2 + (call->limited != 0)) {
+    case 2: return ((Of1 *)it)(TEXT(0), out, room);
+    case 3: return ((Limited1 *)it)(TEXT(0), limit, out, room);
+    case 4: return ((Of2 *)it)(TEXT(0), TEXT(1), out, room);
+    case 5: return ((Limited2 *)it)(TEXT(0), TEXT(1), limit, out, room);
+    case 6: return ((Of3 *)it)(TEXT(0), TEXT(1), TEXT(2), out, room);
+    case 8: return ((Of4 *)it)(TEXT(0), TEXT(1), TEXT(2), TEXT(3), out, room);
+    default: return ((Limited4 *)it)(TEXT(0), TEXT(1), TEXT(2), TEXT(3), limit, out, room);
+    }
+}
+
+static int is_quick(const Call *call, const Text *texts) {
+    size_t all = 0;
+    for (int i = 0; i < call->texts; i++) all += texts[i].len < LONG_CALL ? texts[i].len : LONG_CALL;
+    return call->quick && all < LONG_CALL;
+}
+
+/* Has fowlyore._native raise a refusal, whose text is the reason. */
+static void refuse_call(const reqs_reply *reply, const uint8_t *why) {
+    PyObject *native = PyImport_ImportModule("fowlyore._native");
+    if (!native) return;
+    PyObject *nothing = PyObject_CallMethod(native, "refuse", "y#InNN", why, (Py_ssize_t)reply->length,
+                                            reply->input, (Py_ssize_t)reply->line,
+                                            PyLong_FromSize_t(reply->start), PyLong_FromSize_t(reply->len));
+    Py_DECREF(native);
+    Py_XDECREF(nothing);
+}
+
+/* The answer of a call as bytes, or NULL with an exception. `size` is the room that it is given at first. */
+static PyObject *answer(const Call *call, const Text *texts, uint64_t limit, size_t size) {
+    uint8_t own[ROOM], *out = own;
+    PyObject *bytes = NULL;
+    reqs_reply reply = {.length = size};
+    size_t room;
+    do {
+        room = reply.length > ROOM ? reply.length : ROOM;
+        Py_CLEAR(bytes);
+        if (room > PY_SSIZE_T_MAX) return PyErr_NoMemory();
+        if (room > ROOM) {
+            bytes = PyBytes_FromStringAndSize(NULL, (Py_ssize_t)room);
+            if (!bytes) return NULL;
+            out = (uint8_t *)PyBytes_AsString(bytes);
+        }
+        PyThreadState *thread = is_quick(call, texts) && room <= LONG_CALL ? NULL : PyEval_SaveThread();
+        reply = reply_of(call, texts, limit, out, room);
+        if (thread) PyEval_RestoreThread(thread);
+    } while (reply.length > room);
+    if (reply.status == REQS_ANSWERED || reply.status == REQS_DIFFERENT) {
+        if (bytes && PyBytes_Size(bytes) == (Py_ssize_t)reply.length) return bytes;
+        PyObject *front = PyBytes_FromStringAndSize((const char *)out, (Py_ssize_t)reply.length);
+        Py_XDECREF(bytes);
+        return front;
+    }
+    if (reply.status == REQS_MEMORY) PyErr_SetString(PyExc_MemoryError, "libreqs");
+    else refuse_call(&reply, out);
+    Py_XDECREF(bytes);
+    return NULL;
+}
+
+static const char call_name[] = "fowlyore call";
+
+static void free_call(PyObject *capsule) { PyMem_Free(PyCapsule_GetPointer(capsule, call_name)); }
+
+/* The number of a keyword argument. */
+static int read_number(PyObject *names, Py_ssize_t at, PyObject *value, uint64_t *limit, size_t *size) {
+    PyObject *name = PyTuple_GetItem(names, at);
+    if (!name) return -1;
+    unsigned long long number = PyLong_AsUnsignedLongLong(value);
+    if (number == (unsigned long long)-1 && PyErr_Occurred()) return -1;
+    if (!PyUnicode_CompareWithASCIIString(name, "limit")) *limit = number;
+    else if (!PyUnicode_CompareWithASCIIString(name, "size")) *size = (size_t)number;
+    else return PyErr_Format(PyExc_TypeError, "no argument %R", name), -1;
+    return 0;
+}
+
+/* What `call` returns: given texts, and perhaps `limit=` and `size=`, it returns the answer as bytes. */
+static PyObject *call_texts(PyObject *capsule, PyObject *const *given, Py_ssize_t count, PyObject *names) {
+    const Call *call = PyCapsule_GetPointer(capsule, call_name);
+    Text texts[MOST_TEXTS] = {{NULL, 0, NULL}};
+    uint64_t limit = 0;
+    size_t size = 0;
+    PyObject *found = NULL;
+    Py_ssize_t more = names ? PyTuple_Size(names) : 0;
+    int opened = 0;
+    if (!call) return NULL;
+    if (count != call->texts) return PyErr_Format(PyExc_TypeError, "%zd texts, not %d", count, call->texts);
+    for (Py_ssize_t i = 0; i < more; i++)
+        if (read_number(names, i, given[count + i], &limit, &size)) return NULL;
+    while (opened < call->texts && !text_of(given[opened], &texts[opened])) opened++;
+    if (opened == call->texts) found = answer(call, texts, limit, size);
+    while (opened > 0) text_close(&texts[--opened]);
+    return found;
+}
+
+static PyMethodDef call_method = {"call", (PyCFunction)(void (*)(void))call_texts,
+                                  METH_FASTCALL | METH_KEYWORDS, NULL};
+
+/* call(address, texts, limited, quick): the library's function at an address, as a function of Python. */
+static PyObject *call_of(PyObject *module, PyObject *args) {
+    (void)module;
+    unsigned long long address;
+    Call call;
+    if (!PyArg_ParseTuple(args, "Kipp:call", &address, &call.texts, &call.limited, &call.quick)) return NULL;
+    int known = call.texts > 0 && call.texts <= MOST_TEXTS && (call.texts != 3 || !call.limited);
+    if (!known || !address) return PyErr_Format(PyExc_ValueError, "no call of %d texts", call.texts);
+    call.address = (uintptr_t)address;
+    Call *kept = PyMem_Malloc(sizeof *kept);
+    if (!kept) return PyErr_NoMemory();
+    *kept = call;
+    PyObject *capsule = PyCapsule_New(kept, call_name, free_call);
+    if (!capsule) return PyMem_Free(kept), NULL;
+    PyObject *made = PyCFunction_NewEx(&call_method, capsule, NULL);
+    Py_DECREF(capsule);
+    return made;
+}
