@@ -5,17 +5,20 @@ by packaging 26.2 (PEP 440, Handling of pre-releases): all of them if `prereleas
 false, and if it is None those of a `filter` in which no final release is accepted. One version alone, as
 `contains` is given, is a pre-release beside no final one.
 
-A text that is no version is accepted by no specifier, and so only by a set without any. One that is a version
-by PEP 440, but has a number of 2^64 or more, raises `InvalidVersion`.
+A text that is no version is accepted by no specifier, and so only by a set without any. One that would be a
+version if its numbers were below 2^64, and without white space around it other than blanks, tabs, line feeds,
+carriage returns and form feeds, raises `InvalidVersion`.
 
 `is_disjoint`, `is_subset` and `is_empty` compare specifiers as ranges. A range is a set of points on the line
 of versions: each version, including pre-releases, and each place between versions. The answers are exact over
 these points. So `>=1.2,<2` is a subset of `~=1.2`, but not the other way round: `~=1.2` goes up to `2.dev0`,
 and `<2` ends a little before, below all versions of release 2, though no version lies between these two
-places. `==1.0` is the single point 1.0, though it accepts `1.0+local` too."""
+places. `==1.0` is the single point 1.0, though it accepts `1.0+local` too: so `==1.0,==1.0+local` has no
+point, and accepts a version."""
 
 import re
-from typing import Any, Callable, FrozenSet, Iterable, Iterator, List, Optional, Tuple, TypeVar, Union, overload
+from typing import Any, Callable, FrozenSet, Iterable, Iterator, List, Optional, Tuple, TypeVar, Union
+from typing import overload
 
 from . import _native
 from .errors import Refused, refusal
@@ -53,7 +56,8 @@ def _members(text: str) -> List[str]:
 
 
 def _takes(specifiers: bytes, version: UnparsedVersion, admits: Optional[bool]) -> bool:
-    """Whether a list of specifiers accepts one version, or what should be one."""
+    """Whether a list of specifiers accepts one version, or what should be one: a pre-release unless `admits`
+    is False."""
     answer = _native.take_one(specifiers, _line(version).encode("utf-8", "replace"))
     if answer == b"?":
         return _takes_no_version(specifiers, version)
@@ -61,9 +65,13 @@ def _takes(specifiers: bytes, version: UnparsedVersion, admits: Optional[bool]) 
 
 
 def _taken(
-    specifiers: bytes, iterable: Iterable[Any], admits: Optional[bool], key: Optional[Callable[[Any], UnparsedVersion]]
+    specifiers: bytes,
+    iterable: Iterable[Any],
+    admits: Optional[bool],
+    key: Optional[Callable[[Any], UnparsedVersion]],
 ) -> Iterator[Any]:
-    """Those items whose versions are accepted, in their order, by one call of the library."""
+    """Those items whose versions are accepted, in their order, by one call of the library: pre-releases if
+    `admits` is true, and if it is None where there is no final release."""
     items = list(iterable)
     versions: List[UnparsedVersion] = items if key is None else [key(it) for it in items]
     answers = _native.take(specifiers, _lines(versions).encode("utf-8", "replace"))
@@ -103,9 +111,8 @@ def _line(version: UnparsedVersion) -> str:
 
 def _takes_no_version(specifiers: bytes, text: UnparsedVersion) -> bool:
     """Whether a list of specifiers accepts a text that the library doesn't read. Raises `InvalidVersion` if
-    smaller numbers would make it a version."""
-    smaller = _MANY_DIGITS.sub("0", str(text))
-    if smaller != text and is_version(smaller):
+    with smaller numbers, and without white space around it, it would be a version."""
+    if is_version(_MANY_DIGITS.sub("0", str(text)).strip()):
         Version(str(text))
     return not specifiers
 
@@ -183,11 +190,6 @@ class Specifier:
         return self._normal[:-2] if self._normal.endswith(".*") else self._normal
 
     @property
-    def _admits(self) -> Optional[bool]:
-        """What `contains` and `filter` take where no `prereleases` is given."""
-        return self._prereleases if self._prereleases is not None else self.prereleases or None
-
-    @property
     def _canonical(self) -> "Tuple[str, Union[str, bytes]]":
         """A value that is equal for specifiers with the same operator that accept the same versions. Zeros at
         the end of the release count after `~=`, after `===` and before a star."""
@@ -232,7 +234,7 @@ class Specifier:
         >>> Specifier(">=1").contains("2.0rc1"), Specifier(">=1").contains("2.0rc1", prereleases=False)
         (True, False)
         """
-        return _takes(self._bytes, item, self._admits if prereleases is None else prereleases)
+        return _takes(self._bytes, item, self._prereleases if prereleases is None else prereleases)
 
     @overload
     def filter(
@@ -241,7 +243,10 @@ class Specifier:
 
     @overload
     def filter(
-        self, iterable: Iterable[Item], prereleases: Optional[bool] = None, key: Callable[[Item], UnparsedVersion] = ...
+        self,
+        iterable: Iterable[Item],
+        prereleases: Optional[bool] = None,
+        key: Callable[[Item], UnparsedVersion] = ...,
     ) -> Iterator[Item]: ...
 
     def filter(
@@ -261,7 +266,8 @@ class Specifier:
         >>> list(Specifier(">=1.2.3").filter([("foo", "1.2"), ("foo", "1.3")], key=lambda it: it[1]))
         [('foo', '1.3')]
         """
-        return _taken(self._bytes, iterable, self._admits if prereleases is None else prereleases, key)
+        admits = self._prereleases if prereleases is None else prereleases
+        return _taken(self._bytes, iterable, self.prereleases or None if admits is None else admits, key)
 
     def is_disjoint(self, other: "Ranged") -> bool:
         """Whether this range has no point in common with another one (see this module). As `is_subset` does,
@@ -402,12 +408,13 @@ class SpecifierSet:
         """Whether all members accept a version; a pre-release unless `prereleases` is False, or is None where
         it is set to False on the list. If the version is `installed` it may be a pre-release all the same.
 
-        >>> SpecifierSet(">=1,<3").contains("2.0rc1"), SpecifierSet(">=1,<3").contains("2.0rc1", prereleases=False)
+        >>> specifiers = SpecifierSet(">=1,<3")
+        >>> specifiers.contains("2.0rc1"), specifiers.contains("2.0rc1", prereleases=False)
         (True, False)
-        >>> SpecifierSet(">=1,<3", prereleases=False).contains("2.0rc1", installed=True)
+        >>> specifiers.contains("2.0rc1", prereleases=False, installed=True)
         True
         """
-        admits = self.prereleases if prereleases is None else prereleases
+        admits = self._prereleases if prereleases is None else prereleases
         return _takes(self._bytes, item, True if installed else admits)
 
     @overload
@@ -417,7 +424,10 @@ class SpecifierSet:
 
     @overload
     def filter(
-        self, iterable: Iterable[Item], prereleases: Optional[bool] = None, key: Callable[[Item], UnparsedVersion] = ...
+        self,
+        iterable: Iterable[Item],
+        prereleases: Optional[bool] = None,
+        key: Callable[[Item], UnparsedVersion] = ...,
     ) -> Iterator[Item]: ...
 
     def filter(

@@ -1,5 +1,5 @@
-"""Names of packages, texts of versions, and what the names of wheels and source archives say (PEP 503, PEP 427,
-PEP 625).
+"""Names of packages, texts of versions, and what the names of wheels and source archives say (PEP 503, PEP
+427, PEP 625).
 
 What a name is, and what a version is, is the library's answer."""
 
@@ -13,7 +13,8 @@ from .version import InvalidVersion, Version
 
 __all__ = [
     "BuildTag", "InvalidName", "InvalidSdistFilename", "InvalidWheelFilename", "NormalizedName", "Tag",
-    "canonicalize_name", "canonicalize_version", "is_normalized_name", "parse_sdist_filename", "parse_wheel_filename",
+    "canonicalize_name", "canonicalize_version", "is_normalized_name", "parse_sdist_filename",
+    "parse_wheel_filename",
 ]  # fmt: skip
 
 # A requirement of these characters alone is a name.
@@ -57,8 +58,8 @@ _KINDS = {InvalidWheelFilename: "wheel filename", InvalidSdistFilename: "sdist f
 
 
 class Tag(NamedTuple):
-    """A tag of a wheel (PEP 425), in lower case, by the names that packaging has. It is no `packaging.tags.Tag`:
-    its text is what it has in common with one.
+    """A tag of a wheel (PEP 425), in lower case, with the attributes that packaging's have. It is no
+    `packaging.tags.Tag`: its text is what it has in common with one.
 
     >>> print(Tag("py3", "none", "any"))
     py3-none-any
@@ -155,8 +156,9 @@ def parse_wheel_filename(
     build = _build_of(filename, parts)
     sets = [it.split(".") for it in parts[-3:]]
     if validate_order and any(it != sorted(it) for it in sets):
-        why = "its tags are not sorted"
-        raise _refused(InvalidWheelFilename, filename, why, len("-".join(parts[:-3])) + 1, "-".join(parts[-3:]))
+        tags = "-".join(parts[-3:])
+        start = len(filename) - len(".whl") - len(tags)
+        raise _refused(InvalidWheelFilename, filename, "its tags are not sorted", start, tags)
     lowered = ([tag.lower() for tag in it] for it in sets)
     return name, version, build, frozenset(itertools.starmap(Tag, itertools.product(*lowered)))
 

@@ -312,7 +312,8 @@ def text_of_parts(parts: Parts) -> str:
     if parts.pre is not None:
         letter, number = parts.pre if isinstance(parts.pre, tuple) and len(parts.pre) == 2 else ("", -1)
         letter = normalize_pre(letter) if isinstance(letter, str) else ""
-        _want(letter in ("a", "b", "rc") and _is_number(number), "pre", "a pair of 'a', 'b' or 'rc' and a number", parts.pre)
+        is_pre = letter in ("a", "b", "rc") and _is_number(number)
+        _want(is_pre, "pre", "a pair of 'a', 'b' or 'rc' and a number", parts.pre)
         text += f"{letter}{number:d}"
     for name, value in (("post", parts.post), ("dev", parts.dev)):
         if value is not None:
@@ -320,7 +321,8 @@ def text_of_parts(parts: Parts) -> str:
             text += f".{name}{value:d}"
     if parts.local is not None:
         # (white space at its end would be read as that around a version)
-        _want(isinstance(parts.local, str) and parts.local.split() == [parts.local], "local", "a local version", parts.local)
+        is_local = isinstance(parts.local, str) and parts.local.split() == [parts.local]
+        _want(is_local, "local", "a local version", parts.local)
         text += f"+{parts.local}"
     return text
 

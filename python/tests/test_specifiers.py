@@ -52,7 +52,7 @@ class Taking(unittest.TestCase):
 
     def test_no_versions(self):
         """They are accepted where there is no specifier alone."""
-        texts = ["", "x", "1\n2", "1.0\x0b", "\ud800", "x" * 5000]
+        texts = ["", "x", "1\n2", "\ud800", "x" * 5000]
         for it in (SpecifierSet(">=1"), SpecifierSet(">=1,<3"), Specifier(">=1"), SpecifierSet("")):
             accepts = str(it) == ""
             for text in texts:
@@ -65,10 +65,10 @@ class Taking(unittest.TestCase):
                 with self.assertRaises(TypeError):
                     call(1)
 
-    def test_versions_with_too_large_numbers(self):
-        """They are versions by PEP 440, so that it is told that they can't be read."""
+    def test_versions_that_are_not_read(self):
+        """They have too large numbers, or other white space: it is told that they can't be read."""
         for it in (SpecifierSet(">=1"), Specifier(">=1"), SpecifierSet("")):
-            for text in (str(2**64), f" 1.0.dev{2 ** 64}\n", f"1!{2 ** 64}rc1+x"):
+            for text in (str(2**64), f" 1.0.dev{2 ** 64}\n", f"1!{2 ** 64}rc1+x", "1.0\v", "\u00a01.0"):
                 for call in (it.contains, lambda version: it.filter(["1.0", version])):
                     with self.assertRaises(InvalidVersion, msg=(it, text)):
                         call(text)
@@ -80,8 +80,9 @@ class Prereleases(unittest.TestCase):
     def test_detected(self):
         for text, wanted in (("<1.0rc1", True), ("!=1.0rc1", False), ("==1.*", False), ("~=1.0.dev1", True), (">=1", False)):
             self.assertIs(Specifier(text).prereleases, wanted, text)
-            self.assertIs(SpecifierSet(text).prereleases, wanted or None, text)
-        for text, wanted in (("", None), (">2", None), (">=1,<3", None), (">=1,<3rc1", True), (">=1rc1,!=2", True)):
+            self.assertIs(SpecifierSet(text).prereleases, True if wanted else None, text)
+        rows = [("", None), (">2", None), (">=1,<3", None), (">=1,<3rc1", True), (">=1rc1,!=2", True)]
+        for text, wanted in rows:
             self.assertIs(SpecifierSet(text).prereleases, wanted, text)
             for said in (True, False):
                 self.assertIs(SpecifierSet(text, prereleases=said).prereleases, said, text)
@@ -99,17 +100,19 @@ class Prereleases(unittest.TestCase):
         self.assertIn("2.0a1", specifiers)
 
     def test_contained(self):
-        """A pre-release is, unless `prereleases` is False; by another version than those that are accepted none is."""
-        for text, version in ((">=1", "2.0a1"), ("<3", "1rc2"), (">2", "2.1.dev1"), (">=1.0a1", "1.0a1"), ("!=2.0a1", "1.0a1")):
-            for kind, said, given in itertools.product((Specifier, SpecifierSet), (None, True, False), (None, True, False)):
-                admits = (said if given is None else given) is not False
-                it = kind(text, prereleases=said)
-                self.assertIs(it.contains(version, given), admits, (kind, text, said, given))
-                self.assertFalse(it.contains("2.0a1" if text == "!=2.0a1" else "0.1a1" if ">" in text else "9a1", given))
-                if given is None:
-                    self.assertIs(version in it, admits)
-                final = "2.5"
-                self.assertTrue(it.contains(final, given), (kind, text, said, given))
+        """A pre-release that is accepted is, unless `prereleases` is False."""
+        rows = [
+            # a specifier, a pre-release that it accepts, and one that it doesn't
+            (">=1", "2.0a1", "0.1a1"), ("<3", "1rc2", "9a1"), (">2", "2.1.dev1", "0.1a1"),
+            (">=1.0a1", "1.0a1", "0.1a1"), ("!=2.0a1", "1.0a1", "2.0a1"),
+        ]  # fmt: skip
+        kinds, flags = (Specifier, SpecifierSet), (None, True, False)
+        for (text, early, other), kind, said, given in itertools.product(rows, kinds, flags, flags):
+            it, admits = kind(text, prereleases=said), (said if given is None else given) is not False
+            found = [it.contains(version, given) for version in (early, other, "2.5")]
+            self.assertEqual(found, [admits, False, True], (kind, text, said, given))
+            if given is None:
+                self.assertIs(early in it, admits)
 
     def test_filtered(self):
         rows = [
@@ -129,8 +132,9 @@ class Prereleases(unittest.TestCase):
         for kind, text, prereleases, given, wanted in rows:
             self.assertEqual(list(kind(text).filter(given, prereleases)), wanted, (kind, text, prereleases))
             if prereleases is not None:
-                self.assertEqual(list(kind(text, prereleases).filter(given)), wanted, (kind, text, prereleases))
-                self.assertEqual(list(kind(text, not prereleases).filter(given, prereleases)), wanted, (kind, text))
+                said, other = kind(text, prereleases), kind(text, not prereleases)
+                self.assertEqual(list(said.filter(given)), wanted, (kind, text, prereleases))
+                self.assertEqual(list(other.filter(given, prereleases)), wanted, (kind, text, prereleases))
 
     def test_filtered_by_a_key(self):
         items = [{"version": it} for it in ("0.9", "1.0", "2.0a1", "x")]
@@ -185,7 +189,8 @@ class Values(unittest.TestCase):
     def test_members_in_their_order(self):
         written = [">=1", "!=1.5", "<2", "!= 1.5.0", "==1.*", "!=1.5"]
         texts = [it.replace(" ", "") for it in written]
-        for it in (SpecifierSet(",".join(written)), SpecifierSet(written), SpecifierSet(map(Specifier, written))):
+        for given in (",".join(written), written, map(Specifier, written)):
+            it = SpecifierSet(given)
             for _ in range(2):
                 self.assertEqual(([str(member) for member in it], len(it)), (texts, 6))
                 self.assertEqual(str(it), "!=1.5,<2,==1.*,>=1")

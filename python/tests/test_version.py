@@ -96,7 +96,8 @@ class Made(unittest.TestCase):
             ({"release": (2**64 - 1,)}, str(2**64 - 1)),
         ]
         for parts, text in rows:
-            self.assertEqual((str(Version.from_parts(**parts)), Version.from_parts(**parts)), (text, Version(text)))
+            made = Version.from_parts(**parts)
+            self.assertEqual((str(made), made), (text, Version(text)))
         with self.assertRaises(TypeError):
             Version.from_parts()
 
@@ -118,7 +119,8 @@ class Made(unittest.TestCase):
         rows = [
             ({"epoch": None}, "2.3rc4.post5.dev6+x.7"), ({"release": None}, "1!0rc4.post5.dev6+x.7"),
             ({"pre": None, "dev": None}, "1!2.3.post5+x.7"), ({"post": 0, "local": None}, "1!2.3rc4.post0.dev6"),
-            ({"pre": ("ALPHA", 1)}, "1!2.3a1.post5.dev6+x.7"), ({"release": (9,), "local": "b-1"}, "1!9rc4.post5.dev6+b.1"),
+            ({"pre": ("ALPHA", 1)}, "1!2.3a1.post5.dev6+x.7"),
+            ({"release": (9,), "local": "b-1"}, "1!9rc4.post5.dev6+b.1"),
         ]  # fmt: skip
         for parts, text in rows:
             self.assertEqual(str(version.__replace__(**parts)), text, parts)
@@ -145,7 +147,8 @@ class Made(unittest.TestCase):
     @unittest.skipIf(sys.version_info < (3, 10), "match is of Python 3.10 and later")
     def test_matched(self):
         found = {"Version": Version}
-        exec("match Version('v1.0-RC1'):\n case Version('1rc1'): found = 0\n case Version('1.0rc1'): found = 1", found)
+        lines = ["match Version('v1.0-RC1'):", " case Version('1rc1'): found = 0"]
+        exec("\n".join([*lines, " case Version('1.0rc1'): found = 1"]), found)
         self.assertEqual(found["found"], 1)
 
 
