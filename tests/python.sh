@@ -79,6 +79,9 @@ for version in "${runs[@]}"; do
         fail "the tests by Python $version"
     fi
 done
+# packaging 26.2, which the tests compare with.
+[ "${FOWLYORE_PACKAGING-}" ] ||
+    echo "not tried: packaging 26.2, of which FOWLYORE_PACKAGING names no folder (pip install -t DIR packaging==26.2)"
 for minor in {8..13}; do
     [ "${interpreters[3.$minor]-}" ] || echo "not tried: the tests by Python 3.$minor, which is not there (pyenv install 3.$minor)"
 done

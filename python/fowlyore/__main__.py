@@ -14,7 +14,7 @@ from pathlib import Path
 from typing import Any, Dict, Iterable, Iterator, List, NamedTuple, NoReturn, Optional, Union
 
 from . import __version__, tables
-from .distributions import installed, normal_name
+from .distributions import installed
 from .explanations import Explanation, check_explained
 from .files import has_groups, read, read_text, refuse_groups
 from .listings import LeftOut, Listing
@@ -26,6 +26,7 @@ from .markers import completed
 from .offered import read_candidates, wheelhouse
 from .progress import Progress, is_terminal
 from .urls import MarkerInURLWarning
+from .utils import normal_name
 from .version import InvalidVersion, Version
 
 ANSWERED, DIFFERENT, REFUSED, NOT_READ, STRICT = range(5)

@@ -6,7 +6,7 @@ import re
 from typing import Dict, FrozenSet, Iterable, List, Set, Tuple
 
 from . import _native
-from .distributions import normal_name
+from .utils import normal_name
 
 __all__ = ["ALWAYS", "Misplaced", "NotFollowed", "OwnExtras", "of_lock", "truth"]
 

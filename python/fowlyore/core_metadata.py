@@ -8,10 +8,10 @@ import re
 from typing import Any, Dict, Iterator, List, NamedTuple, NoReturn, Optional, Tuple
 
 from . import _native
-from .distributions import normal_name
 from .listings import REQUIRES_PYTHON, LeftOut, Listing, Place
 from .lists import InvalidInput, decoded, unread
 from .projects import Lines, check_marker
+from .utils import normal_name
 
 __all__ = ["python_of", "read_archive", "read_distribution", "read_folder", "read_metadata", "read_wheel"]
 

@@ -3,8 +3,8 @@
 import importlib.metadata
 from typing import Dict, List, Optional, Tuple
 
-from .requirements import InvalidRequirement, Requirement
-from .version import InvalidVersion, Version
+from .utils import normal_name
+from .version import is_version
 
 __all__ = ["installed"]
 
@@ -15,6 +15,7 @@ def installed(left_out: Optional[List[str]] = None) -> List[Tuple[str, str]]:
 
     A name or version that is not valid by PEP 508 and PEP 440 is left out, and added to `left_out`.
 
+    >>> from fowlyore import Version
     >>> all(Version(version) for name, version in installed())
     True
     """
@@ -36,20 +37,3 @@ def _name_and_version(distribution: importlib.metadata.Distribution) -> Tuple[st
         return str(distribution.metadata["Name"]), str(distribution.version)
     except (AttributeError, KeyError, TypeError):  # its metadata can't be read
         return "None", "None"
-
-
-def normal_name(name: str) -> str:
-    """A name's normal form, or an empty text if it is not a name."""
-    try:
-        requirement = Requirement(name)
-    except InvalidRequirement:
-        return ""
-    return requirement._normal_front()[0] if requirement.name == name else ""
-
-
-def is_version(text: str) -> bool:
-    try:
-        Version(text)
-    except InvalidVersion:
-        return False
-    return True

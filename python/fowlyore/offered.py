@@ -9,13 +9,13 @@ from pathlib import Path
 from typing import Any, Dict, Iterable, List, NoReturn, Optional, Tuple, Union
 
 from .core_metadata import python_of
-from .distributions import is_version, normal_name
 from .listings import LeftOut, Place
 from .lists import InvalidInput, decoded, unread
 from .progress import Progress
 from .projects import is_lock, locked_versions
 from .specifiers import InvalidSpecifier, SpecifierSet
-from .version import Version
+from .utils import normal_name
+from .version import Version, is_version
 
 __all__ = ["read_candidates", "wheelhouse"]
 

@@ -6,13 +6,13 @@ from typing import Any, Collection, Dict, FrozenSet, Iterator, List, NamedTuple,
 
 from . import _native
 from .conditions import ALWAYS, Misplaced, NotFollowed, OwnExtras, of_lock, truth
-from .distributions import normal_name
 from .errors import characters
 from .listings import (
     COMMENT, ENVIRONMENTS, REQUIRES_PYTHON, Assumption, Entries, LeftOut, Listing, Located, Origin, Place, narrowed,
 )  # fmt: skip
 from .lists import InvalidInput, decoded, refused, unread
 from .specifiers import InvalidSpecifier, SpecifierSet
+from .utils import normal_name
 from .version import InvalidVersion, Version
 
 __all__ = ["is_lock", "locked_versions", "read_lock", "read_project"]

@@ -129,7 +129,7 @@ class Requirement:
 
     def _text(self, marker: str) -> str:
         """The text of its parts, with this marker text; without a marker if that is empty."""
-        url = f"@ {self.url}" + (" " if marker else "") if self.url else ""
+        url = f" @ {self.url}" + (" " if marker else "") if self.url else ""
         return f"{self._front()}{self.specifier}{url}" + (f"; {marker}" if marker else "")
 
     def __str__(self) -> str:

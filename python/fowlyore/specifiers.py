@@ -1,25 +1,38 @@
 """Specifiers and sets of them (PEP 440, Version specifiers).
 
 Which versions a specifier accepts is the library's answer. Which pre-releases are let in is decided here, as
-by packaging 25.
+by packaging 26.2 (PEP 440, Handling of pre-releases): all of them if `prereleases` is true, none if it is
+false, and if it is None those of a `filter` in which no final release is accepted. One version alone, as
+`contains` is given, is a pre-release beside no final one.
+
+A text that is no version is accepted by no specifier, and so only by a set without any. One that would be a
+version if its numbers were below 2^64, and without white space around it other than blanks, tabs, line feeds,
+carriage returns and form feeds, raises `InvalidVersion`.
 
 `is_disjoint`, `is_subset` and `is_empty` compare specifiers as ranges. A range is a set of points on the line
 of versions: each version, including pre-releases, and each place between versions. The answers are exact over
 these points. So `>=1.2,<2` is a subset of `~=1.2`, but not the other way round: `~=1.2` goes up to `2.dev0`,
 and `<2` ends a little before, below all versions of release 2, though no version lies between these two
-places. `==1.0` is the single point 1.0, though it accepts `1.0+local` too."""
+places. `==1.0` is the single point 1.0, though it accepts `1.0+local` too: so `==1.0,==1.0+local` has no
+point, and accepts a version."""
 
-from typing import Callable, FrozenSet, Iterable, Iterator, List, Optional, Tuple, TypeVar, Union
+import re
+from typing import Any, Callable, FrozenSet, Iterable, Iterator, List, Optional, Tuple, TypeVar, Union
+from typing import overload
 
 from . import _native
 from .errors import Refused, refusal
-from .version import InvalidVersion, Version, is_prerelease, text_of
+from .version import InvalidVersion, Version, is_prerelease, is_version, text_of
 
 __all__ = ["InvalidSpecifier", "Specifier", "SpecifierSet"]
 
 UnparsedVersion = Union[Version, str]
 UnparsedVersionVar = TypeVar("UnparsedVersionVar", bound=UnparsedVersion)
+Item = TypeVar("Item")
 Ranged = Union["Specifier", "SpecifierSet", str]
+
+# Digits of a number that may need more than 64 bits.
+_MANY_DIGITS = re.compile("[0-9]{20,}")
 
 
 class InvalidSpecifier(Refused):
@@ -42,38 +55,66 @@ def _members(text: str) -> List[str]:
         raise refusal(InvalidSpecifier, fault, text, message) from None
 
 
-def _takes(specifiers: bytes, version: UnparsedVersion) -> bool:
-    answer = _native.take_one(specifiers, _native.encoded(text_of(version)))
+def _takes(specifiers: bytes, version: UnparsedVersion, admits: Optional[bool]) -> bool:
+    """Whether a list of specifiers accepts one version, or what should be one: a pre-release unless `admits`
+    is False."""
+    answer = _native.take_one(specifiers, _line(version).encode("utf-8", "replace"))
     if answer == b"?":
-        raise _invalid(version)
-    return answer == b"1"
+        return _takes_no_version(specifiers, version)
+    return answer == b"1" and (admits is not False or not _is_prerelease(version))
 
 
-def _taken(specifiers: bytes, versions: List[UnparsedVersionVar]) -> List[UnparsedVersionVar]:
-    """The versions that are accepted, in their order, by one call."""
-    answers = _native.take(specifiers, _native.encoded(_lines(versions)))
-    at = answers.find(b"?")
-    if at >= 0:
-        raise _invalid(versions[at])
-    return [it for it, answer in zip(versions, answers) if answer == ord("1")]
+def _taken(
+    specifiers: bytes,
+    iterable: Iterable[Any],
+    admits: Optional[bool],
+    key: Optional[Callable[[Any], UnparsedVersion]],
+) -> Iterator[Any]:
+    """Those items whose versions are accepted, in their order, by one call of the library: pre-releases if
+    `admits` is true, and if it is None where there is no final release."""
+    items = list(iterable)
+    versions: List[UnparsedVersion] = items if key is None else [key(it) for it in items]
+    answers = _native.take(specifiers, _lines(versions).encode("utf-8", "replace"))
+    if admits and b"?" not in answers:
+        return iter([it for it, answer in zip(items, answers) if answer == ord("1")])
+    accepted: List[Tuple[Any, bool]] = []
+    has_final = False
+    for item, version, answer in zip(items, versions, answers):
+        early = False
+        if answer == ord("1"):
+            early = not admits and _is_prerelease(version)
+            has_final = has_final or not early
+        elif answer == ord("0") or not _takes_no_version(specifiers, version):
+            continue
+        accepted.append((item, early))
+    admits_all = admits or (admits is None and not has_final)
+    return iter([item for item, early in accepted if admits_all or not early])
 
 
-def _lines(versions: List[UnparsedVersionVar]) -> str:
+def _lines(versions: List[UnparsedVersion]) -> str:
     """The versions' texts, one per line. Texts without a line feed are joined as they are."""
     if all(type(it) is str for it in versions):
         lines = "\n".join([*versions, ""])  # type: ignore[list-item]
         if lines.count("\n") == len(versions):
             return lines
-    return "".join(f"{text_of(it)}\n" for it in versions)
+    return "".join(f"{_line(it)}\n" for it in versions)
 
 
-def _invalid(version: UnparsedVersion) -> InvalidVersion:
-    """The error for what the library reports as not a version."""
+def _line(version: UnparsedVersion) -> str:
+    """The text of a version, or of what should be one, on one line. A text of more lines is no version, and
+    neither is what stands for it."""
     try:
-        Version(str(version))
-    except InvalidVersion as error:
-        return error
-    raise AssertionError(f"{version!r} is a version and none")
+        return text_of(version)
+    except InvalidVersion:
+        return "?"
+
+
+def _takes_no_version(specifiers: bytes, text: UnparsedVersion) -> bool:
+    """Whether a list of specifiers accepts a text that the library doesn't read. Raises `InvalidVersion` if
+    with smaller numbers, and without white space around it, it would be a version."""
+    if is_version(_MANY_DIGITS.sub("0", str(text)).strip()):
+        Version(str(text))
+    return not specifiers
 
 
 def _is_prerelease(version: UnparsedVersion) -> bool:
@@ -108,6 +149,7 @@ class Specifier:
     """
 
     __slots__ = ("_operator", "_version", "_normal", "_bytes", "_prereleases", "_names_one", "__weakref__")
+    __match_args__ = ("_str",)
 
     _names_one: bool
 
@@ -165,6 +207,11 @@ class Specifier:
     def __str__(self) -> str:
         return self._operator + self._version
 
+    @property
+    def _str(self) -> str:
+        """The text, by which `match` compares."""
+        return str(self)
+
     def __repr__(self) -> str:
         return f"<Specifier({str(self)!r}{_shown(self._prereleases)})>"
 
@@ -185,32 +232,46 @@ class Specifier:
         return self.contains(item)
 
     def contains(self, item: UnparsedVersion, prereleases: Optional[bool] = None) -> bool:
-        """Whether it accepts a version; a pre-release only if `prereleases` is true, or, if that is None,
-        `self.prereleases`.
+        """Whether it accepts a version; a pre-release unless `prereleases` is False, or is None where it is
+        set to False on the specifier.
 
-        >>> Specifier(">=1").contains("2.0rc1"), Specifier(">=1").contains("2.0rc1", prereleases=True)
-        (False, True)
+        >>> Specifier(">=1").contains("2.0rc1"), Specifier(">=1").contains("2.0rc1", prereleases=False)
+        (True, False)
         """
-        if prereleases is None:
-            prereleases = self.prereleases
-        return _takes(self._bytes, item) and (prereleases or not _is_prerelease(item))
+        return _takes(self._bytes, item, self._prereleases if prereleases is None else prereleases)
+
+    @overload
+    def filter(
+        self, iterable: Iterable[UnparsedVersionVar], prereleases: Optional[bool] = None, key: None = None
+    ) -> Iterator[UnparsedVersionVar]: ...
+
+    @overload
+    def filter(
+        self,
+        iterable: Iterable[Item],
+        prereleases: Optional[bool] = None,
+        key: Callable[[Item], UnparsedVersion] = ...,
+    ) -> Iterator[Item]: ...
 
     def filter(
-        self, iterable: Iterable[UnparsedVersionVar], prereleases: Optional[bool] = None
-    ) -> Iterator[UnparsedVersionVar]:
-        """The versions that it accepts, in their order, by one call of the library. If only pre-releases are
-        accepted and `prereleases` isn't False, these are returned.
+        self,
+        iterable: Iterable[Any],
+        prereleases: Optional[bool] = None,
+        key: Optional[Callable[[Any], UnparsedVersion]] = None,
+    ) -> Iterator[Any]:
+        """The items that it accepts, in their order, by one call of the library: versions, or what `key`
+        returns a version for. If only pre-releases are accepted they are returned, unless `prereleases` is
+        False, or is None where it is set to False on the specifier.
 
         >>> list(Specifier(">=1.2.3").filter(["1.2", "1.3", "1.5a1"]))
         ['1.3']
         >>> list(Specifier(">=1.2.3").filter(["1.2", "1.5a1"]))
         ['1.5a1']
+        >>> list(Specifier(">=1.2.3").filter([("foo", "1.2"), ("foo", "1.3")], key=lambda it: it[1]))
+        [('foo', '1.3')]
         """
-        taken = _taken(self._bytes, list(iterable))
-        if prereleases or (prereleases is None and self.prereleases):
-            return iter(taken)
-        finals = [it for it in taken if not _is_prerelease(it)]
-        return iter(finals or (taken if prereleases is None else []))
+        admits = self._prereleases if prereleases is None else prereleases
+        return _taken(self._bytes, iterable, self.prereleases or None if admits is None else admits, key)
 
     def is_disjoint(self, other: "Ranged") -> bool:
         """Whether this range has no point in common with another one (see this module). As `is_subset` does,
@@ -239,18 +300,24 @@ def _shown(prereleases: Optional[bool]) -> str:
 
 
 class SpecifierSet:
-    """A list of specifiers, all of which have to accept a version.
+    """A list of specifiers, all of which have to accept a version. Its members are in the order in which they
+    were written, but print in that of their texts, equal ones once. Lists are equal if each member of one is
+    equal to some member of the other.
 
     >>> specifiers = SpecifierSet(">=1.0,!=1.3, <2")
     >>> str(specifiers), len(specifiers), "1.2" in specifiers, "1.3" in specifiers
     ('!=1.3,<2,>=1.0', 3, True, False)
+    >>> [it.operator for it in specifiers]
+    ['>=', '!=', '<']
     >>> list(specifiers.filter(["0.9", "1.2", "1.3", "2.0"]))
     ['1.2']
     """
 
-    __slots__ = ("_bytes", "_given", "_made", "_prereleases", "_names_one", "__weakref__")
+    __slots__ = ("_bytes", "_given", "_made", "_compared", "_prereleases", "_names_one", "__weakref__")
+    __match_args__ = ("_str",)
 
-    _made: FrozenSet[Specifier]
+    _made: Tuple[Specifier, ...]
+    _compared: FrozenSet[Specifier]
     _names_one: bool
 
     def __init__(
@@ -261,49 +328,61 @@ class SpecifierSet:
             self._given = ",".join(it for it in specifiers.split(",") if it.strip())
             _members(self._given)
         else:
-            self._made = frozenset(it if isinstance(it, Specifier) else Specifier(it) for it in specifiers)
+            self._made = tuple(it if isinstance(it, Specifier) else Specifier(it) for it in specifiers)
             self._given = ",".join(map(str, self._made))
         self._bytes = _native.encoded(self._given)
         self._prereleases = prereleases
 
     @property
-    def _specs(self) -> FrozenSet[Specifier]:
+    def _specs(self) -> Tuple[Specifier, ...]:
         try:
             return self._made
         except AttributeError:
-            self._made = frozenset(map(Specifier, filter(None, self._given.split(","))))
+            self._made = tuple(map(Specifier, filter(None, self._given.split(","))))
             return self._made
 
     @property
+    def _distinct(self) -> FrozenSet[Specifier]:
+        """The members, of equal ones that with the least text."""
+        try:
+            return self._compared
+        except AttributeError:
+            self._compared = frozenset(sorted(self._specs, key=str))
+            return self._compared
+
+    @property
     def prereleases(self) -> Optional[bool]:
-        """Whether pre-releases are let in: as it was set, or otherwise if some member lets them in; None
-        without members."""
+        """Whether pre-releases are let in: as it was set, or otherwise True if some member lets them in, and
+        None if none does."""
         if self._prereleases is not None:
             return self._prereleases
-        if not self._given:
-            return None
         try:
-            return self._names_one
+            return self._names_one or None
         except AttributeError:
             self._names_one = any(it.prereleases for it in self._specs)
-            return self._names_one
+            return self._names_one or None
 
     @prereleases.setter
     def prereleases(self, value: Optional[bool]) -> None:
         self._prereleases = value
 
-    def __reduce__(self) -> "Tuple[type, Tuple[Union[str, FrozenSet[Specifier]], Optional[bool]]]":
+    def __reduce__(self) -> "Tuple[type, Tuple[Union[str, Tuple[Specifier, ...]], Optional[bool]]]":
         # (the members themselves, once there are some: of each it may be set whether it lets pre-releases in)
         return self.__class__, (getattr(self, "_made", self._given), self._prereleases)
 
     def __str__(self) -> str:
-        return ",".join(sorted(map(str, self._specs)))
+        return ",".join(sorted(map(str, self._distinct)))
+
+    @property
+    def _str(self) -> str:
+        """The text, by which `match` compares."""
+        return str(self)
 
     def __repr__(self) -> str:
         return f"<SpecifierSet({str(self)!r}{_shown(self._prereleases)})>"
 
     def __hash__(self) -> int:
-        return hash(self._specs)
+        return hash(self._distinct)
 
     def __and__(self, other: "Union[SpecifierSet, str]") -> "SpecifierSet":
         if isinstance(other, str):
@@ -313,14 +392,14 @@ class SpecifierSet:
         said = {self._prereleases, other._prereleases} - {None}
         if len(said) > 1:
             raise ValueError("Cannot combine SpecifierSets with True and False prerelease overrides.")
-        return SpecifierSet(self._specs | other._specs, said.pop() if said else None)
+        return SpecifierSet(self._specs + other._specs, said.pop() if said else None)
 
     def __eq__(self, other: object) -> bool:
         if isinstance(other, (str, Specifier)):
             other = SpecifierSet(str(other))
         elif not isinstance(other, SpecifierSet):
             return NotImplemented
-        return self._specs == other._specs
+        return self._distinct == other._distinct
 
     def __len__(self) -> int:
         return len(self._specs)
@@ -334,36 +413,49 @@ class SpecifierSet:
     def contains(
         self, item: UnparsedVersion, prereleases: Optional[bool] = None, installed: Optional[bool] = None
     ) -> bool:
-        """Whether all members accept a version; a pre-release only if `prereleases` is true, or, if that is
-        None, `self.prereleases`. For an installed pre-release the base version is tested.
+        """Whether all members accept a version; a pre-release unless `prereleases` is False, or is None where
+        it is set to False on the list. If the version is `installed` it may be a pre-release all the same.
 
-        >>> SpecifierSet(">=1,<3").contains("2.0rc1"), SpecifierSet(">=1,<3").contains("2.0rc1", prereleases=True)
-        (False, True)
+        >>> specifiers = SpecifierSet(">=1,<3")
+        >>> specifiers.contains("2.0rc1"), specifiers.contains("2.0rc1", prereleases=False)
+        (True, False)
+        >>> specifiers.contains("2.0rc1", prereleases=False, installed=True)
+        True
         """
-        if prereleases is None:
-            prereleases = self.prereleases
-        if installed and _is_prerelease(item):
-            return bool(prereleases) and _takes(self._bytes, Version(text_of(item)).base_version)
-        return _takes(self._bytes, item) and (bool(prereleases) or not _is_prerelease(item))
+        admits = self._prereleases if prereleases is None else prereleases
+        return _takes(self._bytes, item, True if installed else admits)
+
+    @overload
+    def filter(
+        self, iterable: Iterable[UnparsedVersionVar], prereleases: Optional[bool] = None, key: None = None
+    ) -> Iterator[UnparsedVersionVar]: ...
+
+    @overload
+    def filter(
+        self,
+        iterable: Iterable[Item],
+        prereleases: Optional[bool] = None,
+        key: Callable[[Item], UnparsedVersion] = ...,
+    ) -> Iterator[Item]: ...
 
     def filter(
-        self, iterable: Iterable[UnparsedVersionVar], prereleases: Optional[bool] = None
-    ) -> Iterator[UnparsedVersionVar]:
-        """The versions that all members accept, in their order, by one call of the library; pre-releases only
-        if `prereleases` is true, or, if that is None, `self.prereleases`. Without members pre-releases are
-        returned if there is nothing else, unless `prereleases` is False.
+        self,
+        iterable: Iterable[Any],
+        prereleases: Optional[bool] = None,
+        key: Optional[Callable[[Any], UnparsedVersion]] = None,
+    ) -> Iterator[Any]:
+        """The items that all members accept, in their order, by one call of the library: versions, or what
+        `key` returns a version for. Pre-releases are returned if `prereleases` is true, or, if that is None,
+        if `self.prereleases` is; if both are None they are returned if no final release is accepted.
 
         >>> list(SpecifierSet(">=1.2.3").filter(["1.2", "1.3", "1.5a1"]))
         ['1.3']
+        >>> list(SpecifierSet(">=1.2.3").filter(["1.2", "1.5a1"]))
+        ['1.5a1']
+        >>> list(SpecifierSet(">=1.2.3,<2").filter([("foo", "1.2"), ("foo", "1.3")], key=lambda it: it[1]))
+        [('foo', '1.3')]
         """
-        if prereleases is None:
-            prereleases = self.prereleases
-        taken = _taken(self._bytes, list(iterable))
-        if prereleases:
-            return iter(taken)
-        finals = [it for it in taken if not _is_prerelease(it)]
-        # (None where there are no members)
-        return iter(finals or (taken if prereleases is None else []))
+        return _taken(self._bytes, iterable, self.prereleases if prereleases is None else prereleases, key)
 
     def is_disjoint(self, other: "Ranged") -> bool:
         """Whether this range has no point in common with another one (see this module). As `is_subset` and

@@ -1,12 +1,12 @@
 """Versions (PEP 440)."""
 
 import re
-from typing import NamedTuple, Optional, Tuple
+from typing import Any, NamedTuple, Optional, Tuple
 
 from . import _native
 from .errors import Refused, refusal
 
-__all__ = ["InvalidVersion", "Version", "parse"]
+__all__ = ["InvalidVersion", "Version", "normalize_pre", "parse"]
 
 _key_of, _SIZE = _native.version_key_call, _native.ROOM
 _take_buffer, _give_buffer = _native.take_buffer, _native.give_buffer
@@ -63,6 +63,7 @@ class Version:
     """
 
     __slots__ = ("_key", "_given", "_normal", "_read", "__weakref__")
+    __match_args__ = ("_str",)
 
     _key: bytes
     _given: str
@@ -101,6 +102,39 @@ class Version:
         except AttributeError:
             self._normal = _native.version(_native.encoded(self._given))
             return self._normal
+
+    @property
+    def _str(self) -> str:
+        """The text, by which `match` compares."""
+        return str(self)
+
+    @classmethod
+    def from_parts(
+        cls,
+        *,
+        epoch: int = 0,
+        release: Tuple[int, ...],
+        pre: Optional[Tuple[str, int]] = None,
+        post: Optional[int] = None,
+        dev: Optional[int] = None,
+        local: Optional[str] = None,
+    ) -> "Version":
+        """The version of these parts. Raises `InvalidVersion` if they are none of a version.
+
+        >>> Version.from_parts(release=(1, 2), pre=("beta", 3))
+        <Version('1.2b3')>
+        """
+        return cls(text_of_parts(Parts(epoch, release, pre, post, dev, local)))
+
+    def __replace__(self, **parts: Any) -> "Version":
+        """The version with other parts in place of those that are named, as of `from_parts`; None leaves a
+        part out.
+
+        >>> Version("1.2rc1+local").__replace__(pre=None, post=4)
+        <Version('1.2.post4+local')>
+        """
+        made = Parts(**{**self._parts._asdict(), **parts})
+        return self if made == self._parts else type(self)(text_of_parts(made))
 
     def __reduce__(self) -> "Tuple[type, Tuple[str]]":
         return self.__class__, (self._given,)
@@ -265,10 +299,67 @@ def _parts_of(normal: str) -> Parts:
     )
 
 
+def normalize_pre(letter: str) -> str:
+    """The normal spelling of a word for a pre-release (PEP 440, Pre-release spelling). Any other text is
+    returned in lower case.
+
+    >>> normalize_pre("alpha"), normalize_pre("Preview"), normalize_pre("Foo")
+    ('a', 'rc', 'foo')
+    """
+    letter = letter.lower()
+    if letter.isascii() and letter.isalpha() and is_version(f"0{letter}0"):
+        return str(Version(f"0{letter}0")).strip("0.")
+    return letter
+
+
+def text_of_parts(parts: Parts) -> str:
+    """The text of a version with these parts, any but the release being None or 0 where it has none. Raises
+    `InvalidVersion` for a part of another form."""
+    epoch, release = parts.epoch or 0, (0,) if parts.release is None else parts.release
+    _want(_is_number(epoch), "epoch", "a number that is not negative", epoch)
+    is_release = isinstance(release, tuple) and bool(release) and all(map(_is_number, release))
+    _want(is_release, "release", "a tuple of numbers that are not negative", release)
+    text = (f"{epoch:d}!" if epoch else "") + ".".join(f"{it:d}" for it in release)
+    if parts.pre is not None:
+        letter, number = parts.pre if isinstance(parts.pre, tuple) and len(parts.pre) == 2 else ("", -1)
+        letter = normalize_pre(letter) if isinstance(letter, str) else ""
+        is_pre = letter in ("a", "b", "rc") and _is_number(number)
+        _want(is_pre, "pre", "a pair of 'a', 'b' or 'rc' and a number", parts.pre)
+        text += f"{letter}{number:d}"
+    for name, value in (("post", parts.post), ("dev", parts.dev)):
+        if value is not None:
+            _want(_is_number(value), name, "a number that is not negative", value)
+            text += f".{name}{value:d}"
+    if parts.local is not None:
+        # (white space at its end would be read as that around a version)
+        is_local = isinstance(parts.local, str) and parts.local.split() == [parts.local]
+        _want(is_local, "local", "a local version", parts.local)
+        text += f"+{parts.local}"
+    return text
+
+
+def _is_number(value: object) -> bool:
+    return isinstance(value, int) and value >= 0
+
+
+def _want(is_given: bool, part: str, what: str, value: object) -> None:
+    if not is_given:
+        raise InvalidVersion(f"{part} has to be {what}, not {value!r}")
+
+
 def is_prerelease(text: str) -> bool:
     """Whether the version of this text is a pre-release or a developmental release; without letters it isn't.
     """
     return not text.replace(".", "").isdecimal() and Version(text).is_prerelease
+
+
+def is_version(text: str) -> bool:
+    """Whether a text is a version."""
+    try:
+        Version(text)
+    except InvalidVersion:
+        return False
+    return True
 
 
 def text_of(version: object) -> str:

@@ -3,12 +3,14 @@
 import copy
 import pickle
 import unittest
+from functools import partial
 
 import fowlyore
 from fowlyore import InvalidInput, Marker, Refused, Requirement, Specifier, SpecifierSet, Version
 from fowlyore.explanations import explain
 from fowlyore.listings import Entries
 from fowlyore.pip_files import read_pip
+from fowlyore.utils import Tag, canonicalize_name, parse_sdist_filename, parse_wheel_filename
 
 
 def error_of(call, *given):
@@ -47,6 +49,9 @@ MADE = {
     "Comparison": [lambda: fowlyore.same("a", "a"), lambda: fowlyore.same("a", "a ; os_name == 'nt'")],
     "Conflict": [lambda: fowlyore.conflicts("a<1\na>2.0rc1")[0]],
     "InvalidInput": [lambda: error_of(fowlyore.normal, "a\nb=1"), lambda: error_of(fowlyore.check, "a", "{}", "")],
+    "InvalidName": [lambda: error_of(partial(canonicalize_name, validate=True), "-")],
+    "InvalidSdistFilename": [lambda: error_of(parse_sdist_filename, "foo-x.zip")],
+    "InvalidWheelFilename": [lambda: error_of(parse_wheel_filename, "foo-1.whl")],
     "InvalidMarker": [lambda: error_of(Marker, "os_name")],
     "InvalidRequirement": [lambda: error_of(Requirement, "a=1")],
     "InvalidSpecifier": [lambda: error_of(Specifier, "=1"), lambda: error_of(SpecifierSet, ">=1,=2")],
@@ -69,9 +74,12 @@ MADE = {
         SpecifierSet, lambda: SpecifierSet(">=1,<2,"), lambda: SpecifierSet(">=1", prereleases=True),
         lambda: SpecifierSet(prereleases=False), set_of_members, lambda: set_of_members() & "!=2",
     ],
+    "Tag": [lambda: Tag("py3", "none", "any")],
     "UndefinedComparison": [lambda: fowlyore.UndefinedComparison("why")],
     "UndefinedEnvironmentName": [lambda: error_of(Marker("extra == 'x'").evaluate, {"extra": "-"})],
-    "Version": [lambda: Version(" 1!2.0-RC.1+Local_1\n")],
+    "Version": [
+        lambda: Version(" 1!2.0-RC.1+Local_1\n"), lambda: Version.from_parts(release=(1, 0), pre=("Beta", 2)),
+    ],
     "Explanation": [lambda: explain("a>1\na<1", candidates="a 1\na 2")[0], lambda: explain("a", candidates="a 1rc1")[0]],
 }  # fmt: skip
 

@@ -53,7 +53,8 @@ class Requirements(unittest.TestCase):
         it = Requirement("pip[x] @ https://example.org/pip.whl;a ; python_version < '3'")
         self.assertEqual(it.url, "https://example.org/pip.whl;a")
         self.assertFalse(it.marker.evaluate())
-        self.assertIn("@ https://example.org/pip.whl;a ; python", str(it))
+        self.assertIn("pip[x] @ https://example.org/pip.whl;a ; python", str(it))
+        self.assertEqual(str(Requirement("pip@https://example.org/x.whl")), "pip @ https://example.org/x.whl")
 
     def test_equal(self):
         one = Requirement("Foo.Bar[B,a]<2,>=1 ; os_name=='nt'")

@@ -1,6 +1,7 @@
 """Specifiers, by PEP 440."""
 
 import itertools
+import sys
 import unittest
 import weakref
 
@@ -50,46 +51,108 @@ class Taking(unittest.TestCase):
         self.assertEqual(list(SpecifierSet(">=1").filter([" 1.0 ", "v2\n", "0.1"])), [" 1.0 ", "v2\n"])
 
     def test_no_versions(self):
-        for call in (SpecifierSet(">=1").contains, lambda it: list(SpecifierSet(">=1").filter(["1.0", it]))):
-            for text in ("", "x", "1\n2", "1.0\x0b"):
-                with self.assertRaises(InvalidVersion, msg=repr(text)):
-                    call(text)
-            with self.assertRaises(TypeError):
-                call(1)
+        """They are accepted where there is no specifier alone."""
+        texts = ["", "x", "1\n2", "\ud800", "x" * 5000]
+        for it in (SpecifierSet(">=1"), SpecifierSet(">=1,<3"), Specifier(">=1"), SpecifierSet("")):
+            accepts = str(it) == ""
+            for text in texts:
+                self.assertIs(it.contains(text), accepts, (it, text))
+                self.assertIs(it.contains(text, prereleases=False), accepts, (it, text))
+            self.assertEqual(list(it.filter([*texts, "1.0"])), [*texts, "1.0"] if accepts else ["1.0"])
+            self.assertEqual(list(it.filter([*texts, "2rc1"])), [*texts, "2rc1"] if accepts else ["2rc1"])
+            self.assertEqual(list(it.filter(["x", "2rc1", "1.0"])), ["x", "1.0"] if accepts else ["1.0"])
+            for call in (it.contains, lambda version: it.filter(["1.0", version])):
+                with self.assertRaises(TypeError):
+                    call(1)
+
+    def test_versions_that_are_not_read(self):
+        """They have too large numbers, or other white space: it is told that they can't be read."""
+        for it in (SpecifierSet(">=1"), Specifier(">=1"), SpecifierSet("")):
+            for text in (str(2**64), f" 1.0.dev{2 ** 64}\n", f"1!{2 ** 64}rc1+x", "1.0\v", "\u00a01.0"):
+                for call in (it.contains, lambda version: it.filter(["1.0", version])):
+                    with self.assertRaises(InvalidVersion, msg=(it, text)):
+                        call(text)
+            for text in (f"x{2 ** 64}", f"1.{2 ** 64}.*", f"1\n{2 ** 64}"):
+                self.assertIs(it.contains(text), str(it) == "", (it, text))
 
 
 class Prereleases(unittest.TestCase):
     def test_detected(self):
         for text, wanted in (("<1.0rc1", True), ("!=1.0rc1", False), ("==1.*", False), ("~=1.0.dev1", True), (">=1", False)):
             self.assertIs(Specifier(text).prereleases, wanted, text)
+            self.assertIs(SpecifierSet(text).prereleases, True if wanted else None, text)
+        rows = [("", None), (">2", None), (">=1,<3", None), (">=1,<3rc1", True), (">=1rc1,!=2", True)]
+        for text, wanted in rows:
             self.assertIs(SpecifierSet(text).prereleases, wanted, text)
-        self.assertIsNone(SpecifierSet("").prereleases)
+            for said in (True, False):
+                self.assertIs(SpecifierSet(text, prereleases=said).prereleases, said, text)
+        self.assertIs(SpecifierSet([Specifier(">=1", prereleases=True), "<3"]).prereleases, True)
+        self.assertIsNone(SpecifierSet([Specifier(">=1rc1", prereleases=False), "<3"]).prereleases)
 
     def test_set(self):
         specifiers = SpecifierSet(">=1")
-        self.assertNotIn("2.0a1", specifiers)
-        specifiers.prereleases = True
         self.assertIn("2.0a1", specifiers)
-        self.assertEqual(repr(specifiers), "<SpecifierSet('>=1', prereleases=True)>")
+        specifiers.prereleases = False
+        self.assertNotIn("2.0a1", specifiers)
+        self.assertEqual(repr(specifiers), "<SpecifierSet('>=1', prereleases=False)>")
         self.assertNotIn("1.0a1", Specifier(">=1.0a1", prereleases=False))
+        specifiers.prereleases = None
+        self.assertIn("2.0a1", specifiers)
+
+    def test_contained(self):
+        """A pre-release that is accepted is, unless `prereleases` is False."""
+        rows = [
+            # a specifier, a pre-release that it accepts, and one that it doesn't
+            (">=1", "2.0a1", "0.1a1"), ("<3", "1rc2", "9a1"), (">2", "2.1.dev1", "0.1a1"),
+            (">=1.0a1", "1.0a1", "0.1a1"), ("!=2.0a1", "1.0a1", "2.0a1"),
+        ]  # fmt: skip
+        kinds, flags = (Specifier, SpecifierSet), (None, True, False)
+        for (text, early, other), kind, said, given in itertools.product(rows, kinds, flags, flags):
+            it, admits = kind(text, prereleases=said), (said if given is None else given) is not False
+            found = [it.contains(version, given) for version in (early, other, "2.5")]
+            self.assertEqual(found, [admits, False, True], (kind, text, said, given))
+            if given is None:
+                self.assertIs(early in it, admits)
 
     def test_filtered(self):
         rows = [
             (Specifier, ">=1", None, ["1.0", "2.0a1"], ["1.0"]),
             (Specifier, ">=1", None, ["0.9", "2.0a1"], ["2.0a1"]),
             (Specifier, ">=1", False, ["0.9", "2.0a1"], []),
-            (SpecifierSet, ">=1", None, ["0.9", "2.0a1"], []),
+            (SpecifierSet, ">=1", None, ["0.9", "2.0a1"], ["2.0a1"]),
+            (SpecifierSet, ">=1,<3", None, ["0.9", "2.0a1", "3"], ["2.0a1"]),
+            (SpecifierSet, ">=1,<3", None, ["2.0a1", "1", "2.0a2"], ["1"]),
+            (SpecifierSet, ">=1,<3", False, ["0.9", "2.0a1", "3"], []),
             (SpecifierSet, ">=1.0a1", None, ["1.0", "2.0a1"], ["1.0", "2.0a1"]),
+            (SpecifierSet, ">=1.0a1", False, ["1.0", "2.0a1"], ["1.0"]),
             (SpecifierSet, "", None, ["1.0", "2.0a1"], ["1.0"]),
             (SpecifierSet, "", None, ["2.0a1"], ["2.0a1"]),
             (SpecifierSet, "", False, ["2.0a1"], []),
         ]
         for kind, text, prereleases, given, wanted in rows:
             self.assertEqual(list(kind(text).filter(given, prereleases)), wanted, (kind, text, prereleases))
+            if prereleases is not None:
+                said, other = kind(text, prereleases), kind(text, not prereleases)
+                self.assertEqual(list(said.filter(given)), wanted, (kind, text, prereleases))
+                self.assertEqual(list(other.filter(given, prereleases)), wanted, (kind, text, prereleases))
+
+    def test_filtered_by_a_key(self):
+        items = [{"version": it} for it in ("0.9", "1.0", "2.0a1", "x")]
+        for it in (Specifier(">=1"), SpecifierSet(">=1"), SpecifierSet(">=1,<3")):
+            self.assertEqual(list(it.filter(items, key=lambda item: item["version"])), items[1:2])
+            early = it.filter(iter(items[:3]), True, lambda item: Version(item["version"][:1] + "rc1"))
+            self.assertEqual(list(early), items[2:3])
+            asked = []
+            list(it.filter(items, key=lambda item: asked.append(item) or item["version"]))
+            self.assertEqual(asked, items)
 
     def test_installed(self):
-        self.assertFalse(SpecifierSet(">=1,<2").contains("1.5a1", installed=True))
-        self.assertTrue(SpecifierSet(">=1.0").contains("1.0a1", prereleases=True, installed=True))
+        for said, given in itertools.product((None, True, False), repeat=2):
+            specifiers = SpecifierSet(">=1,<2", prereleases=said)
+            self.assertTrue(specifiers.contains("1.5a1", given, installed=True))
+            self.assertFalse(specifiers.contains("2.5a1", given, installed=True))
+            self.assertTrue(specifiers.contains("1.5", given, installed=True))
+        self.assertFalse(SpecifierSet(">=1.0").contains("1.0a1", prereleases=True, installed=True))
 
 
 class Values(unittest.TestCase):
@@ -122,6 +185,28 @@ class Values(unittest.TestCase):
             both & SpecifierSet("", prereleases=False)
         with self.assertRaises(TypeError):
             both & 1
+
+    def test_members_in_their_order(self):
+        written = [">=1", "!=1.5", "<2", "!= 1.5.0", "==1.*", "!=1.5"]
+        texts = [it.replace(" ", "") for it in written]
+        for given in (",".join(written), written, map(Specifier, written)):
+            it = SpecifierSet(given)
+            for _ in range(2):
+                self.assertEqual(([str(member) for member in it], len(it)), (texts, 6))
+                self.assertEqual(str(it), "!=1.5,<2,==1.*,>=1")
+        self.assertEqual([str(it) for it in SpecifierSet(">=1") & "<2" & "!=1.5"], [">=1", "<2", "!=1.5"])
+
+    def test_equal_where_texts_sort_in_another_order(self):
+        one, other = SpecifierSet("!=1.00,!=1.0.1"), SpecifierSet("!=1,!=1.0.1")
+        self.assertEqual((one, hash(one)), (other, hash(other)))
+        self.assertNotEqual(one, SpecifierSet("!=1"))
+
+    @unittest.skipIf(sys.version_info < (3, 10), "match is of Python 3.10 and later")
+    def test_matched(self):
+        for kind in (Specifier, SpecifierSet):
+            found = {"kind": kind, "it": kind(">= 1")}
+            exec("match it:\n case kind('<1'): found = 0\n case kind('>=1'): found = 1", found)
+            self.assertEqual(found["found"], 1)
 
     def test_sets_of_texts(self):
         specifiers = SpecifierSet([">=1", Specifier("<2.0rc1"), " ~= 1.1 "])

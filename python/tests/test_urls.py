@@ -60,7 +60,7 @@ class Requirements(unittest.TestCase):
         it = Requirement("foo")
         it.url = URL
         line, found = warned(it._line)
-        self.assertEqual((line, len(found)), (f"foo@ {URL}", 1))
+        self.assertEqual((line, len(found)), (f"foo @ {URL}", 1))
 
     def test_a_long_text_is_not_read_as_a_marker(self):
         """A marker of many pairs of extras takes exponential time to read; a URL with one takes none."""

@@ -8,7 +8,7 @@ import threading
 import unittest
 
 from fowlyore import InvalidVersion, Version, _native, parse
-from fowlyore.version import is_prerelease
+from fowlyore.version import is_prerelease, normalize_pre
 
 # In rising order (PEP 440, Summary of permitted suffixes and relative ordering).
 RISING = (
@@ -80,6 +80,76 @@ class Parts(unittest.TestCase):
     def test_the_text_reads_back(self):
         for text in [*RISING, *itertools.chain(*SPELLINGS)]:
             self.assertEqual(Version(str(Version(text))), Version(text))
+
+
+class Made(unittest.TestCase):
+    """Of parts."""
+
+    WHOLE = {"epoch": 1, "release": (2, 3), "pre": ("rc", 4), "post": 5, "dev": 6, "local": "x.7"}
+
+    def test_from_parts(self):
+        rows = [
+            ({"release": (1, 2, 0)}, "1.2.0"),
+            (self.WHOLE, "1!2.3rc4.post5.dev6+x.7"),
+            ({"release": (1,), "pre": ("Beta", 0), "local": "A_b"}, "1b0+a.b"),
+            ({"release": (0,), "post": 0, "dev": 0}, "0.post0.dev0"),
+            ({"release": (2**64 - 1,)}, str(2**64 - 1)),
+        ]
+        for parts, text in rows:
+            made = Version.from_parts(**parts)
+            self.assertEqual((str(made), made), (text, Version(text)))
+        with self.assertRaises(TypeError):
+            Version.from_parts()
+
+    def test_each_of_another_form(self):
+        forms = {
+            "epoch": [-1, "1", 1.5], "release": [(), [1], 1, (1, -1), ("1",), (1.5,), (2**64,)],
+            "pre": [("post", 1), ("rc",), "rc1", ("rc", -1), (1, 1), ("rc", None), ("", 5), ("a.", 1)],
+            "post": [-1, "1", 2**64], "dev": [-1, (1,)], "local": ["", "a ", " a", "a+b", "a\n", 1, "\u0660", "."],
+        }  # fmt: skip
+        for part, values in forms.items():
+            for value in values:
+                with self.assertRaises(InvalidVersion, msg=(part, value)):
+                    Version.from_parts(**{**self.WHOLE, part: value})
+                with self.assertRaises(InvalidVersion, msg=(part, value)):
+                    Version("3").__replace__(**{part: value})
+
+    def test_replaced(self):
+        version = Version("1!2.3rc4.post5.dev6+x.7")
+        rows = [
+            ({"epoch": None}, "2.3rc4.post5.dev6+x.7"), ({"release": None}, "1!0rc4.post5.dev6+x.7"),
+            ({"pre": None, "dev": None}, "1!2.3.post5+x.7"), ({"post": 0, "local": None}, "1!2.3rc4.post0.dev6"),
+            ({"pre": ("ALPHA", 1)}, "1!2.3a1.post5.dev6+x.7"),
+            ({"release": (9,), "local": "b-1"}, "1!9rc4.post5.dev6+b.1"),
+        ]  # fmt: skip
+        for parts, text in rows:
+            self.assertEqual(str(version.__replace__(**parts)), text, parts)
+        self.assertIs(version.__replace__(), version)
+        self.assertIs(version.__replace__(**self.WHOLE), version)
+        with self.assertRaises(TypeError):
+            version.__replace__(minor=1)
+
+    def test_each_part_put_back(self):
+        for text in RISING:
+            version = Version(text)
+            parts = {it: getattr(version, it) for it in self.WHOLE}
+            self.assertEqual(str(Version.from_parts(**parts)), str(version))
+            self.assertEqual(str(Version("7!8a9.post1.dev2+y").__replace__(**parts)), str(version))
+
+    def test_words_of_prereleases(self):
+        words = {"a": "a ALPHA alpha", "b": "b Beta", "rc": "c rc pre Preview", "post": "r rev post", "dev": "dev"}
+        for normal, spellings in words.items():
+            for it in spellings.split():
+                self.assertEqual(normalize_pre(it), normal)
+        for it in ("", "x", "1", "a1", "\u017f", "a.", "+a", "."):
+            self.assertEqual(normalize_pre(it), it)
+
+    @unittest.skipIf(sys.version_info < (3, 10), "match is of Python 3.10 and later")
+    def test_matched(self):
+        found = {"Version": Version}
+        lines = ["match Version('v1.0-RC1'):", " case Version('1rc1'): found = 0"]
+        exec("\n".join([*lines, " case Version('1.0rc1'): found = 1"]), found)
+        self.assertEqual(found["found"], 1)
 
 
 class Refusals(unittest.TestCase):

@@ -4,8 +4,11 @@
     run.py [--library FILE] [FOLDER]
 
 FOLDER, which is out/packaging_suite where none is named, gets packaging's source and pytest, by apt-get from Debian, unless they
-are there. Each test passes, or stands in differences.txt under its kind. The last line is `packaging: N passed, M failed`: of M
-are a test that fails and isn't listed, and one that is listed and doesn't fail.
+are there. The tests are those of packaging 25.0, and each passes, or stands in differences.txt under its kind.
+A kind that ends in `packaging 26.2` has tests that packaging 26.2 fails too: that is tried where
+FOWLYORE_PACKAGING names a folder that has it, and told where it isn't. The last line is `packaging: N passed, M
+failed`: of M are a test that fails and isn't listed, one that is listed and doesn't fail, and one that packaging
+26.2 is said to fail and doesn't.
 """
 
 import argparse
@@ -25,7 +28,9 @@ SUITE = "trixie"
 KEYS = "/usr/share/keyrings/debian-archive-keyring.gpg"
 SOURCE, ARCHIVE = "python-packaging", "python-packaging_25.0.orig.tar.gz"
 PACKAGES = ["python3-pytest", "python3-iniconfig", "python3-pluggy", "python3-pretend"]
-TESTS = ["test_version.py", "test_specifiers.py", "test_requirements.py", "test_markers.py"]
+TESTS = ["test_version.py", "test_specifiers.py", "test_requirements.py", "test_markers.py", "test_utils.py"]
+# The version that fowlyore stands beside, and the variable that names the folder with it.
+BESIDE, NAMED = "packaging 26.2", "FOWLYORE_PACKAGING"
 
 
 def fetch(folder):
@@ -57,20 +62,34 @@ def source_of(folder):
     return found[0] if found else None
 
 
-def outcomes(folder, library):
-    """Which tests there are, by whether they passed."""
-    source = source_of(folder)
-    paths = [os.path.join(TOP, "python"), os.path.join(source, "src"), f"{folder}/pytest/usr/lib/python3/dist-packages", HERE]
+def outcomes(folder, tests, paths, more=(), name="outcomes"):
+    """Which tests there are, by whether they passed; modules are looked for in these paths first."""
+    source, ended = source_of(folder), os.path.join(folder, f"{name}.json")
+    paths = [*paths, f"{folder}/pytest/usr/lib/python3/dist-packages", HERE]
     paths += filter(None, [os.environ.get("PYTHONPATH")])
-    environment = {**os.environ, "FOWLYORE_LIBRARY": library, "PYTHONPATH": os.pathsep.join(paths)}
-    ended = os.path.join(folder, "outcomes.json")
-    environment.update({"PYTHONDONTWRITEBYTECODE": "1", "OUTCOMES": ended})
-    words = ["-q", "-p", "no:cacheprovider", "-p", "in_place", "--tb=short", "-o", "addopts=", "--rootdir", source]
-    tests = [os.path.join(source, "tests", it) for it in TESTS]
-    with open(os.path.join(folder, "report.txt"), "w", encoding="utf-8") as file:
+    environment = {**os.environ, "PYTHONPATH": os.pathsep.join(paths), "PYTHONDONTWRITEBYTECODE": "1"}
+    environment["OUTCOMES"] = ended
+    words = ["-q", "-p", "no:cacheprovider", *more, "-p", "recorded", "--tb=short", "-o", "addopts="]
+    words += ["--rootdir", source]
+    tests = [os.path.join(source, "tests", it) for it in tests]
+    with open(os.path.join(folder, f"{name}.txt"), "w", encoding="utf-8") as file:
         subprocess.run([sys.executable, "-m", "pytest", *words, *tests], cwd=folder, env=environment, stdout=file, stderr=file)
     with open(ended, encoding="utf-8") as file:
         return {name.split("tests/", 1)[1]: passed for name, passed in json.load(file).items()}
+
+
+def judge_beside(folder, found):
+    """The lines that tell of listed tests that packaging 26.2 is said to fail and doesn't. That this isn't tried
+    is printed."""
+    patterns = [it for kind, listed in differences().items() if kind.endswith(BESIDE) for it in listed]
+    named = [name for name in found if any(it.fullmatch(name) for it in patterns)]
+    beside = os.environ.get(NAMED)
+    if not beside:
+        why = f"since {NAMED} names no folder that has it"
+        print(f"not tried: that {BESIDE} fails {len(named)} of these tests too, {why}")
+        return []
+    theirs = outcomes(folder, named, [beside], name="beside")
+    return [f"FAILED: {it} does not fail by {BESIDE}" for it in named if theirs.get(it, True)]
 
 
 def differences():
@@ -107,8 +126,11 @@ def main():
     folder = os.path.abspath(asked.folder)
     if not source_of(folder):
         fetch(folder)
-    found = outcomes(folder, os.path.abspath(asked.library))
+    os.environ["FOWLYORE_LIBRARY"] = os.path.abspath(asked.library)
+    paths = [os.path.join(TOP, "python"), os.path.join(source_of(folder), "src")]
+    found = outcomes(folder, TESTS, paths, ["-p", "in_place"])
     counts, wrong = judge(found)
+    wrong += judge_beside(folder, found)
     print(*wrong, sep="\n", end="\n" if wrong else "")
     for kind, count in sorted(counts.items()):
         print(f"{count:6} {kind}")
