@@ -184,7 +184,7 @@ def commands(room):
     yield "standard input:", ["check", *files[:2], "-"], room, (0, b"foo-bar none\n", b"")
     yield "a path that is no text:", ["check", *files[:2], os.fsdecode(b"\xff\xfe")], room, (2, b"", NO_TEXT)
     yield "help:", ["--help"], room, (0, read(os.path.join(TOP, "tests", "help.txt")), b"")
-    yield "version:", ["--version"], room, (0, b"reqs 0.1.0\n", b"")
+    yield "version:", ["--version"], room, (0, b"reqs 0.2.0\n", b"")
     yield "a wrong word:", ["judge"], room, (2, b"", WRONG_WORD)
 
 
