@@ -471,6 +471,78 @@ wants "an environment that isn't UTF-8" 2 "" "reqs: bytes: not UTF-8 at byte 3$n
 run check R E bytes
 wants "candidates that aren't UTF-8" 2 "" "reqs: bytes: not UTF-8 at byte 3$n"
 
+# What is shown of a text: each control character and each mark that turns the direction of text by its number.
+other='Expected one of `@`, `(`, `<`, `=`, `>`, `~`, `!`, `;`, found '
+rest="expected 'and', 'or' or end of input"
+printf 'foo\033[31m>=1\n' >sequence
+sequence="line 1, byte 3, length 1${n}$other\`\\u{1b}\`${n}foo\\u{1b}[31m>=1${n}   ^^^^^^$n"
+run check sequence E C
+wants "a control sequence in a line" 2 "" "reqs: sequence: $sequence"
+run matrix sequence M C
+wants "a control sequence in a line, for matrix" 2 "" "reqs: sequence: $sequence"
+run same empty sequence
+wants "a control sequence in a line, for same" 2 "" "reqs: sequence: $sequence"
+run conflicts sequence
+wants "a control sequence in a line, for conflicts" 2 "" "reqs: sequence: $sequence"
+"$program" normal - >out 2>err <sequence
+status=$?
+wants "a control sequence in standard input" 2 "" "reqs: -: $sequence"
+run normal sequence --format json
+wants "a control sequence in a line, as an object" 2 "" \
+    "$(object requirement 1 1 "$other"'`\u001b`\nfoo\u001b[31m>=1\n   ' '"sequence"' 3)$n"
+cp sequence $'a\r\nb'
+run normal $'a\r\nb'
+wants "the path of such a list" 2 "" "reqs: a\\u{d}\\u{a}b: $sequence"
+
+# faulty NAME LINE BYTE LENGTH MESSAGE SHOWN BEFORE MARKS: wants this message for the line, the line as it is shown, and
+# behind so many columns the marks.
+faulty() {
+    printf '%b\n' "$2" >faulty
+    run normal faulty
+    wants "$1" 2 "" "reqs: faulty: line 1, byte $3, length $4$n$5$n$6$n$(printf "%$7s")$8$n"
+}
+faulty "marks behind a tab" 'foo\t?' 4 1 "$other\`?\`" 'foo\u{9}?' 8 ^
+faulty "marks behind a carriage return" 'foo\r?' 4 1 "$other\`?\`" 'foo\u{d}?' 8 ^
+faulty "marks before a control character" 'foo[-\033]' 4 1 \
+    'Expected an alphanumeric character starting the extra name, found `-`' 'foo[-\u{1b}]' 4 ^
+faulty "marks under NUL" 'foo\0000?' 3 1 "$other"'`\u{0}`' 'foo\u{0}?' 3 ^^^^^
+faulty "marks under a mark of direction" 'foo\u202e?' 3 3 "$other"'`\u{202e}`' 'foo\u{202e}?' 3 ^^^^^^^^
+faulty "marks around a control character" 'foo ; os\033name > 1' 6 7 \
+    'Expected a quoted string or a valid marker name, found `os\u{1b}name`' 'foo ; os\u{1b}name > 1' 6 ^^^^^^^^^^^^
+faulty "marks beside wide and combining characters" 'foo ; os_name == "\u6f22e\u0301\033" \u6f22\033!' 27 4 \
+    "Unexpected character '"$'\u6f22'"', $rest" $'foo ; os_name == "\u6f22e\u0301\\u{1b}" \u6f22\\u{1b}!' 29 ^^^^^^^^
+faulty "a mark behind the end of a line" 'foo ; os_name == \v' 18 1 \
+    'Expected marker value, found end of dependency specification' 'foo ; os_name == \u{b}' 22 ^
+faulty "a backslash stays" 'foo \\u{1b}\033' 4 1 "$other"'`\`' 'foo \u{1b}\u{1b}' 4 ^
+printf 'foo @ ../../../../../../../../../../../../../../../${PLACE}\n' >place
+PLACE=$'x\033\ny' run check place E C
+grep -F 'x\u{1b}\u{a}y' err >/dev/null && wc -l <err >out
+wants "a variable's value in a message" 2 "4$n" ANYTHING
+
+for code in {1..31} {127..159} 1564 8206 8207 {8234..8238} {8294..8297}; do
+    printf -v c "\\U$(printf %08x "$code")"
+    printf -v shown '\\u{%x}' "$code"
+    run check R E C "a$c"
+    wants "$shown in an extra" 2 "" "reqs: extra a$shown is no name$n"
+    run normal "absent$c"
+    wants "$shown in a path" 3 "" "reqs: absent$shown: read fault$n"
+    run normal "$c"$'\xff'
+    wants "$shown in a word that isn't UTF-8" 2 "" "reqs: argument $shown"$'\xef\xbf\xbd'" is not UTF-8$n"
+    [ "$c" != "$n" ] || continue
+    faulty "$shown in a line" "foo ; os_name == 'a' ?$c." 21 "$(printf '?%s' "$c" | wc -c)" \
+        "Unexpected character '?', $rest" "foo ; os_name == 'a' ?$shown." 21 "^${shown//?/^}"
+    run "j$c"
+    wants "$shown in a word" 2 "" \
+        "error: unrecognized subcommand 'j$shown'$n${n}Usage: reqs <COMMAND>$n${n}For more information, try '--help'.$n"
+done
+run $'j\nk'
+wants "a line feed in a word" 2 "" \
+    "error: unrecognized subcommand 'j\\u{a}k'\\u{a}\\u{a}Usage: reqs <COMMAND>\\u{a}\\u{a}For more information, try '--help'.$n"
+for c in ' ' '~' $'\u00a0' $'\u061b' $'\u061d' $'\u200d' $'\u2010' $'\u2029' $'\u202f' $'\u2065' $'\u206a'; do
+    run check R E C "a$c-"
+    wants "'$c' is shown as it is" 2 "" "reqs: extra a$c- is no name$n"
+done
+
 # The size of an input.
 head -c 16777217 /dev/zero | tr '\0' '#' >long
 head -c 16777216 long >fits

@@ -1,2 +1,5 @@
 pub mod Roots
 pub mod Limits
+pub mod Plain
+pub mod Told
+pub mod Refused

@@ -3,3 +3,4 @@ pub mod Asked
 pub mod Opened
 pub mod Exits
 pub mod Source
+pub mod Shown

@@ -188,7 +188,8 @@ fn same_command<'a>(alloc: Global) -> Result<Command<'a>, AllocError> {
 
 fn conflicts_command<'a>(alloc: Global) -> Result<Command<'a>, AllocError> {
     let conflicts = Command::new(alloc, "conflicts").about(
-        "Prints each package with its lines that contradict each other, and pre where one names a pre-release",
+        "Prints each package with its lines that contradict each other, and pre where one \
+         names a pre-release",
     );
     with_limit(alloc, conflicts)?.arg(list_argument(alloc))
 }
@@ -260,7 +261,8 @@ fn with_inputs<'a>(
         .arg(input(
             alloc,
             "CANDIDATES",
-            "The candidates, a name and a version a line, a file; pre-releases are taken where a line names one",
+            "The candidates, a name and a version a line, a file; pre-releases are taken where \
+             a line names one",
         ))?
         .arg(
             Arg::new(alloc, "EXTRA")

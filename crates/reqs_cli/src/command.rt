@@ -10,6 +10,7 @@ ghost use Rattle.reqs_cli.specs.Variables.{variables_in};
 
 use crate::asked::{Asked, format_of, matches};
 use crate::opened::{open_all, run_read};
+use crate::shown::{shown_fault, shown_lines, shown_text};
 use crate::source::{Source, open_file};
 use crate::variables::{entries, variables};
 use crate::words::{WordsFault, words};
@@ -17,7 +18,7 @@ use clap::error::ErrorKind;
 use clap::{ArgMatches, Error};
 use reqs_ends::{Input, RunFault, Status};
 use reqs_json::{Format, fault_line, memory_line, usage_line};
-use std::alloc::Global;
+use std::alloc::{AllocError, Global};
 use std::io::{self, Read, Write};
 use std::os::fd::AsRawFd;
 use std::process::ExitCode;
@@ -47,7 +48,7 @@ where
             Some((name, given)) => run_named(rt, name, given),
             None => ExitCode::from(USAGE_STATUS),
         },
-        Err(error) => refuse_words(rt, &error),
+        Err(error) => refuse_words(rt, &error, words.as_slice()),
     }
 }
 
@@ -63,26 +64,47 @@ where
 }
 
 /// Prints the word of the command line that is not UTF-8, and ends with status 2.
-fn refuse_word<R: Eprint>(rt: &R, word: &str) -> ExitCode
+fn refuse_word<R: Runtime + AllocGlobal>(rt: &R, word: &str) -> ExitCode
     ensures { exit_status result ≡ 2 }
 {
-    let _ = eprintln!(rt; "reqs: argument {word} is not UTF-8");
-    ExitCode::from(USAGE_STATUS)
+    match word_text(rt.alloc(), word) {
+        Ok(text) => end(rt, USAGE_STATUS, text.as_str()),
+        Err(_) => end(rt, USAGE_STATUS, "out of memory"),
+    }
+}
+
+/// The message for a word that is not UTF-8.
+fn word_text(alloc: Global, word: &str) -> Result<String, AllocError> {
+    let word = shown_text(alloc, word)?;
+    format!(in alloc; "argument {word} is not UTF-8")
 }
 
 /// Prints what is wrong with the words, or the help that they request.
-fn refuse_words<R: Runtime>(rt: &R, error: &Error) -> ExitCode {
+fn refuse_words<R: Runtime + AllocGlobal>(rt: &R, error: &Error, words: &[String]) -> ExitCode {
     if error.kind() == ErrorKind::OutOfMemory {
         return end(rt, MEMORY_STATUS, "out of memory");
     }
-    let printed = error.print(rt);
     if error.use_stderr() {
-        ExitCode::from(USAGE_STATUS)
-    } else if printed.is_err() {
-        ExitCode::from(RunFault::Write.status())
-    } else {
-        ExitCode::from(Status::Answered.code())
+        return match words_text(rt.alloc(), error, words) {
+            Ok(text) => end_with(rt, USAGE_STATUS, text.as_str()),
+            Err(_) => end(rt, USAGE_STATUS, "out of memory"),
+        };
     }
+    match error.print(rt) {
+        Ok(()) => ExitCode::from(Status::Answered.code()),
+        Err(_) => ExitCode::from(RunFault::Write.status()),
+    }
+}
+
+/// What clap says of the words. Its text has several lines; where a word has a line feed no line end can be
+/// told from that, and the text is shown as one line.
+fn words_text(alloc: Global, error: &Error, words: &[String]) -> Result<String, AllocError> {
+    let text = error.to_string(alloc)?;
+    if words.iter().any(|word| word.as_str().contains('\n')) {
+        let line = shown_text(alloc, text.as_str().trim_end())?;
+        return format!(in alloc; "{line}\n");
+    }
+    shown_lines(alloc, text.as_str())
 }
 
 /// Runs a command on the files that were named.
@@ -188,7 +210,7 @@ fn exit_after<R: Runtime + AllocGlobal>(
 fn end_refused<R: Runtime + AllocGlobal>(rt: &R, fault: &RunFault, paths: &[&str]) -> ExitCode
     ensures { exit_status result ≡ status_of fault.now }
 {
-    match fault.text(rt.alloc(), paths) {
+    match shown_fault(rt.alloc(), fault, paths) {
         Ok(text) => end(rt, fault.status(), text.as_str()),
         Err(_) => end(rt, fault.status(), "out of memory"),
     }

@@ -3,7 +3,9 @@
 
 mod asked;
 mod command;
+mod laws;
 mod opened;
+mod shown;
 mod source;
 mod variables;
 mod words;
