@@ -153,6 +153,8 @@ def wheel_name():
 
 
 def build_wheel(wheel_directory, config_settings=None, metadata_directory=None):
+    # (before anything is said of the extension)
+    demand_toolchain()
     name = wheel_name()
     records, made = [], list(files())
     with zipfile.ZipFile(os.path.join(wheel_directory, name), "w") as wheel:

@@ -12,10 +12,12 @@ import unittest
 from fowlyore import InvalidMarker, Marker, SpecifierSet, _native, normal
 
 PYTHON = pathlib.Path(__file__).resolve().parents[1]
-# A marker whose tree is exponentially larger, so that reading it takes minutes.
-MANY = " or ".join(f"extra == 'a{it}' and extra == 'b{it}'" for it in range(26))
+# A marker whose tree is exponentially larger, so that reading it takes seconds, and half a gigabyte.
+MANY = " or ".join(f"extra == 'a{it}' and extra == 'b{it}'" for it in range(20))
+# (a process that was started in the background ignores the signal)
 CODE = """
-import sys, fowlyore
+import signal, sys, fowlyore
+signal.signal(signal.SIGINT, signal.default_int_handler)
 print("began", flush=True)
 try:
     fowlyore.Marker(sys.stdin.read())
@@ -32,7 +34,7 @@ class Interrupted(unittest.TestCase):
             process.stdin.write(MANY.encode())
             process.stdin.close()
             self.assertEqual(process.stdout.readline(), b"began\n")
-            time.sleep(1)
+            time.sleep(0.5)
             process.send_signal(signal.SIGINT)
             began = time.monotonic()
             self.assertEqual(process.stdout.readline(), b"interrupted\n")
