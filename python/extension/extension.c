@@ -118,12 +118,14 @@ static int version_init(PyObject *self, PyObject *args, PyObject *names) {
 }
 
 static PyObject *version_compare(PyObject *self, PyObject *given, int op) {
-    if (!is_version(self, given)) Py_RETURN_NOTIMPLEMENTED;
+    if (!is_version(self, given)) return shared(Py_NotImplemented);
     Version *it = (Version *)self, *other = (Version *)given;
     if (!is_made(it) || !is_made(other)) return NULL;
     int order = memcmp(it->key, other->key, it->key_len < other->key_len ? it->key_len : other->key_len);
     if (!order) order = (it->key_len > other->key_len) - (it->key_len < other->key_len);
-    Py_RETURN_RICHCOMPARE(order, 0, op);
+    int as_asked[] = {[Py_LT] = order < 0, [Py_LE] = order <= 0, [Py_EQ] = order == 0,
+                      [Py_NE] = order != 0, [Py_GT] = order > 0, [Py_GE] = order >= 0};
+    return PyBool_FromLong(as_asked[op]);
 }
 
 static PyObject *version_key(PyObject *self, void *nothing) {
@@ -188,8 +190,7 @@ static PyObject *number(const uint8_t **at) {
 /* The number that follows a word, which stands here where a version has the part; None where it hasn't. */
 static PyObject *number_after(const uint8_t **at, size_t word, int has) {
     if (has) return *at += word, number(at);
-    Py_INCREF(Py_None);
-    return Py_None;
+    return shared(Py_None);
 }
 
 static PyObject *read_release(const uint8_t **at, const uint8_t *end) {
@@ -344,7 +345,7 @@ static PyObject *is_prerelease(PyObject *written, PyObject *item) {
     if (root_of(Py_TYPE(item))) return version_flag(item, (void *)(intptr_t)(PRE | DEV));
     if (item_text(item, &text))
         for (size_t i = 0; i < text.len; i++) digits += is_digit(text.at[i]) != 0, dots += text.at[i] == '.';
-    if (digits && digits + dots == text.len) Py_RETURN_FALSE;
+    if (digits && digits + dots == text.len) return shared(Py_False);
     return PyObject_CallFunctionObjArgs(written, item, NULL);
 }
 
@@ -514,7 +515,7 @@ static Py_hash_t specifier_hash(PyObject *self) {
 }
 
 static PyObject *specifier_compare(PyObject *self, PyObject *other, int op) {
-    if (op != Py_EQ && op != Py_NE) Py_RETURN_NOTIMPLEMENTED;
+    if (op != Py_EQ && op != Py_NE) return shared(Py_NotImplemented);
     if (Py_TYPE(self) == Py_TYPE(other)) {
         if (!canonical(self) || !canonical(other)) return NULL;
         return PyObject_RichCompare(canonical(self), canonical(other), op);
@@ -600,7 +601,7 @@ static PyObject *set_and(PyObject *self, PyObject *other) {
             return put_prereleases(both, Py_None), both;
         return Py_XDECREF(both), NULL;
     }
-    if (PyType_GetSlot(Py_TYPE(self), Py_nb_and) != (void *)set_and) Py_RETURN_NOTIMPLEMENTED;
+    if (PyType_GetSlot(Py_TYPE(self), Py_nb_and) != (void *)set_and) return shared(Py_NotImplemented);
     return PyObject_CallMethod(self, "_written_and", "(O)", other);
 }
 
@@ -658,7 +659,7 @@ static PyObject *load(PyObject *module, PyObject *args) {
     key_of = (int64_t(*)(At, size_t, uint8_t *, size_t))(uintptr_t)key;
     version_call.address = (uintptr_t)version;
     specifiers_call.address = (uintptr_t)specifiers;
-    Py_RETURN_NONE;
+    return shared(Py_None);
 }
 
 static PyMethodDef methods[] = {

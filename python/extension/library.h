@@ -19,6 +19,10 @@ enum {
     MOST_TEXTS = 4,
 };
 
+/* A reference to an object that is always there. (Py_RETURN_NONE and its relatives make none by the headers of
+ * some Pythons, and others want one.) */
+static PyObject *shared(PyObject *it) { return Py_INCREF(it), it; }
+
 /* ---- texts */
 
 /* The bytes of a str or of bytes. They stand in the object that was given, or in `kept`. */
@@ -105,12 +109,13 @@ static int is_quick(const Call *call, const Text *texts) {
     return call->quick && all < LONG_CALL;
 }
 
-/* Has fowlyore._native raise a refusal, whose text is the reason. */
+/* Has fowlyore._native raise a refusal, whose text is the reason. (A format with a `#` stands for another
+ * function in the headers of each Python.) */
 static void refuse_call(const reqs_reply *reply, const uint8_t *why) {
     PyObject *native = PyImport_ImportModule("fowlyore._native");
     if (!native) return;
-    PyObject *nothing = PyObject_CallMethod(native, "refuse", "y#InNN", why, (Py_ssize_t)reply->length,
-                                            reply->input, (Py_ssize_t)reply->line,
+    PyObject *reason = PyBytes_FromStringAndSize((const char *)why, (Py_ssize_t)reply->length);
+    PyObject *nothing = PyObject_CallMethod(native, "refuse", "NInNN", reason, reply->input, (Py_ssize_t)reply->line,
                                             PyLong_FromSize_t(reply->start), PyLong_FromSize_t(reply->len));
     Py_DECREF(native);
     Py_XDECREF(nothing);
