@@ -39,7 +39,7 @@ NOTHING, RELEASE = "--from-nothing", "--release"
 SCRIPTS = {"--wrong": (["wrong.py"], ["mutants.py", "--again"]), "--mutants": (["mutants.py"],), "--faults": (["faults.py"],)}
 QUESTIONS = ("pep440_vectors", "pep508_vectors", "pep508_marker_vectors")
 # What of tests/ the parts read that run programs.
-OF_REQS = ("alike.py", "cli.sh", "documented.py", "drawn.py", "ends.c", "ends.py", "help.txt", "install.sh", "numerals.py",
+OF_REQS = ("alike.py", "cli.sh", "counted.sh", "documented.py", "drawn.py", "ends.c", "ends.py", "help.txt", "install.sh", "numerals.py",
            "objects.py", "pages", "pairs.py", "refuse.c", "refused.py", "refused.sh", "rows.py", "runs.json", "runs.py", "sizes.py",
            "try.sh")
 OF_C = ("c", "c.py", "c.sh", "calls.py", "fuzz.py", "refuse.c", "runs.json")
@@ -75,8 +75,9 @@ def parts(more):
     of_pack = (*licences, "build", "examples", "gate/prove.py", "include", "pack", "tools")
     of_python = (*of_pack, "README.md", "docs/PYTHON.md", "pyproject.toml", "python", "tests/python.sh", "tests/refuse.c")
     of_release = (*of_pack, ".gitignore", "README.md", "crates.txt", "docs", "gate", "install", "pyproject.toml", "python", "share",
-                  "tests/release.sh")
-    of_deb = (*of_pack, "docs/C.md", "docs/COMMANDS.md", "install", "rust/fowlyore/README.md", "share", "tests/deb.sh")
+                  "tests/counted.sh", "tests/release.sh")
+    of_deb = (*of_pack, "docs/C.md", "docs/COMMANDS.md", "install", "rust/fowlyore/README.md", "share", "tests/counted.sh",
+              "tests/deb.sh")
     of_index = ("bench/workload.py", "build", "gate/prove.py", "examples/index", "python", "tests/index.py", "tools")
     asked = [f"crates/{it}/{of}" for it in QUESTIONS for of in ("data", "stdout")]
     return [

@@ -5,8 +5,7 @@ set -u
 export LC_ALL=C.UTF-8
 
 top=$(cd -- "$(dirname -- "$(readlink -f -- "${BASH_SOURCE[0]}")")/.." && pwd) || exit 1
-passed=0
-failed=0
+source "$top/tests/counted.sh" || exit 1
 work=$(mktemp -d) || exit 1
 trap 'rm -rf "$work"' EXIT
 root=$work/root
@@ -26,22 +25,6 @@ files=(
     usr/share/man/man1/reqs.1.gz
     usr/share/zsh/vendor-completions/_reqs
 )
-
-# holds NAME WORDS..: a test is passed where the command ends with status 0.
-holds() {
-    if "${@:2}"; then
-        passed=$((passed + 1))
-    else
-        failed=$((failed + 1))
-        echo "FAILED: $1"
-    fi
-}
-
-finish() {
-    echo "deb: $passed passed, $failed failed"
-    [ "$failed" -eq 0 ]
-    exit
-}
 
 makes() {
     deb=$("$top/pack" deb "$work") && [ -f "$deb" ]
@@ -108,10 +91,10 @@ removes() {
 if ! command -v dpkg-deb >/dev/null || ! command -v dpkg >/dev/null; then
     echo "not tried: a Debian package, since there is no dpkg (Debian's package dpkg)"
     holds "./pack deb says that there is no dpkg-deb" says_so
-    finish
+    finish deb
 fi
 holds "./pack deb makes a package" makes
-[ "$failed" -eq 0 ] || finish
+[ "$failed" -eq 0 ] || finish deb
 holds "the same sources make the same package" makes_the_same
 holds "dpkg installs it" installs
 holds "its files" has_files
@@ -121,4 +104,4 @@ holds "the first answer of README.md" answers
 holds "a link to the program" answers_through_a_link
 holds "a C program with the library" links
 holds "dpkg removes it" removes
-finish
+finish deb

@@ -5,8 +5,7 @@ set -u
 export LC_ALL=C.UTF-8
 
 top=$(cd -- "$(dirname -- "$(readlink -f -- "${BASH_SOURCE[0]}")")/.." && pwd) || exit 1
-passed=0
-failed=0
+source "$top/tests/counted.sh" || exit 1
 work=$(mktemp -d) || exit 1
 trap 'rm -rf "$work"' EXIT
 cd "$work" || exit 1
@@ -19,16 +18,6 @@ files=(
     share/fish/vendor_completions.d/reqs.fish
 )
 pages=("${files[@]:2}")
-
-# holds NAME WORDS..: a test is passed where the command ends with status 0.
-holds() {
-    if "${@:2}"; then
-        passed=$((passed + 1))
-    else
-        failed=$((failed + 1))
-        echo "FAILED: $1"
-    fi
-}
 
 # run WORDS..: runs the script; its outputs go to the files `out` and `err`, its status to `status`.
 run() {
@@ -224,5 +213,4 @@ printf '#!/bin/sh\necho other\n' >foreign/bin/reqs
 holds "another's program" leaves foreign foreign
 holds "a removal of another's program" leaves foreign --remove foreign
 
-echo "install: $passed passed, $failed failed"
-[ "$failed" -eq 0 ]
+finish install

@@ -10,28 +10,11 @@ set -u
 export LC_ALL=C.UTF-8 PYTHONDONTWRITEBYTECODE=1
 
 top=$(cd -- "$(dirname -- "$(readlink -f -- "${BASH_SOURCE[0]}")")/.." && pwd) || exit 1
-passed=0
-failed=0
+source "$top/tests/counted.sh" || exit 1
 work=$(mktemp -d) || exit 1
 trap 'rm -rf "$work"' EXIT
 first=$work/first
 second="$work/it's a longer place/second"
-
-# holds NAME WORDS..: a test is passed where the command ends with status 0.
-holds() {
-    if "${@:2}"; then
-        passed=$((passed + 1))
-    else
-        failed=$((failed + 1))
-        echo "FAILED: $1"
-    fi
-}
-
-finish() {
-    echo "release: $passed passed, $failed failed"
-    [ "$failed" -eq 0 ]
-    exit
-}
 
 builds() {
     "$top/build" reqs_c >"$work/said" 2>&1 </dev/null && "$top/build" reqs_cli >"$work/said" 2>&1 </dev/null && return
@@ -210,11 +193,11 @@ if ! command -v dpkg-deb >/dev/null; then
     echo "not tried: a release, since there is no dpkg-deb (Debian's package dpkg)"
     library=$top/pack program=$top/pack run "$top" deb "$work/none"
     holds "pack says that there is no dpkg-deb" is_refused dpkg-deb
-    finish
+    finish release
 fi
 if [ $# -eq 0 ]; then
     holds "the library and the program are built" builds
-    [ "$failed" -eq 0 ] || finish
+    [ "$failed" -eq 0 ] || finish release
 fi
 library=$(realpath -- "${1-$top/crates/reqs_c/out/libreqs.so}")
 program=$(realpath -- "${2-$top/crates/reqs_cli/out/reqs_cli}")
@@ -222,7 +205,7 @@ holds "a repository" clone "$first"
 sum=$(python3 "$first/gate/sources.py")
 printf 'test: sources %s\n12 passed, 0 failed\n' "$sum" >"$work/log"
 holds "a release" makes "$first" release "$first/dist" "$work/log"
-[ "$failed" -eq 0 ] || finish
+[ "$failed" -eq 0 ] || finish release
 holds "the files of a release are told" names_its_files
 holds "the same release in another folder, later and for another caller" makes_the_same
 holds "README.md of a release says what it was made from" says_what_it_is_of
@@ -243,4 +226,4 @@ run "$first" frobnicate
 holds "an unknown word" [ "$status $(wc -l <"$work/err")" = "2 1" ]
 run "$first" verify ""
 holds "an empty name of a folder" [ "$status $(wc -l <"$work/err")" = "2 1" ]
-finish
+finish release
