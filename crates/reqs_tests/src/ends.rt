@@ -1,131 +1,15 @@
 //! Readers and writers that are interrupted, fail or never end, and the limits up to which this is tolerated.
 
+use crate::commands::ENVIRONMENT;
+use crate::faulty::{CLOSED, Inlet, Manner, Outlet, WIDE, Width, busy, narrow};
 use pep508_url::Vars;
 use reqs_answers::{check, matrix};
 use reqs_ends::{RunFault, Status};
 use reqs_io::{ASK_LIMIT, ReadFault, WriteFault, read_whole, write_whole};
 use reqs_json::Format;
 use std::alloc::{AllocError, Global};
-use std::io::{self, ErrorKind, Read, Write};
+use std::io::Read;
 use std::test::Fail;
-
-/// A reader of one byte per call, each after `pause` interruptions, of which `left` are left. It fails at its
-/// end if `fails` is set, and counts its calls.
-#[derive(Drop)]
-struct Hesitant<'a> {
-    rest: &'a [u8],
-    pause: u64,
-    left: u64,
-    asked: u64,
-    fails: bool,
-}
-
-impl Read for Hesitant<'_> {
-    fn read(&mut self, buf: &mut [u8]) -> io::Result<usize> {
-        self.asked = self.asked.saturating_add(1);
-        if self.left > 0 {
-            self.left -= 1;
-            return Err(io::Error::from(ErrorKind::Interrupted));
-        }
-        self.left = self.pause;
-        match self.rest.split_first() {
-            Some((first, rest)) => {
-                if buf.is_empty() {
-                    return Ok(0);
-                }
-                buf[0] = *first;
-                self.rest = rest;
-                Ok(1)
-            }
-            None if self.fails => Err(io::Error::from(ErrorKind::Other)),
-            None => Ok(0),
-        }
-    }
-}
-
-/// A reader that never ends.
-#[derive(Drop)]
-struct Endless;
-
-impl Read for Endless {
-    fn read(&mut self, buf: &mut [u8]) -> io::Result<usize> {
-        Ok(buf.len())
-    }
-}
-
-/// The limits of a writer: the number of writes, the bytes per write, and the interruptions before each write
-/// and before the first one.
-type Width = (usize, usize, u32, u32);
-
-/// Writes everything at once.
-const WIDE: Width = (usize::MAX, usize::MAX, 0, 0);
-
-/// Writes nothing.
-const CLOSED: Width = (usize::MAX, 0, 0, 0);
-
-/// Writes one byte per call, `room` bytes in all, and is interrupted before each.
-const fn narrow(room: usize) -> Width {
-    (room, 1, 1, 1)
-}
-
-/// Is interrupted `interruptions` times, and then writes everything.
-const fn busy(interruptions: u32) -> Width {
-    (usize::MAX, usize::MAX, 0, interruptions)
-}
-
-/// A writer that keeps what it writes.
-#[derive(Drop)]
-struct Outlet {
-    taken: Vec<u8>,
-    room: usize,
-    step: usize,
-    pause: u32,
-    left: u32,
-}
-
-impl Outlet {
-    fn new(alloc: Global, (room, step, pause, left): Width) -> Outlet {
-        Outlet {
-            taken: Vec::new(alloc),
-            room,
-            step,
-            pause,
-            left,
-        }
-    }
-}
-
-impl Write for Outlet {
-    fn write(&mut self, buf: &[u8]) -> io::Result<usize> {
-        if self.left > 0 {
-            self.left -= 1;
-            return Err(io::Error::from(ErrorKind::Interrupted));
-        }
-        self.left = self.pause;
-        if self.room == 0 {
-            return Err(io::Error::from(ErrorKind::Other));
-        }
-        self.room -= 1;
-        let front = if self.step < buf.len() {
-            &buf[..self.step]
-        } else {
-            buf
-        };
-        self.taken.extend_from_slice(front)?;
-        Ok(front.len())
-    }
-
-    fn flush(&mut self) -> io::Result<()> {
-        Ok(())
-    }
-}
-
-const ENVIRONMENT: &str = r##"{
-    "implementation_name": "cpython", "implementation_version": "3.11.4", "os_name": "posix",
-    "platform_machine": "x86_64", "platform_python_implementation": "CPython",
-    "platform_release": "5.4", "platform_system": "Linux", "platform_version": "#1",
-    "python_full_version": "3.11.4", "python_version": "3.11", "sys_platform": "linux"
-}"##;
 
 const REQUIREMENTS: &[u8] = b"foo>=1\nbar==2";
 
@@ -174,16 +58,6 @@ fn read_from<R: Read>(alloc: Global, requirements: &mut R) -> Result<String, All
     told(alloc, &output, result)
 }
 
-fn hesitantly(rest: &[u8], fails: bool) -> Hesitant<'_> {
-    Hesitant {
-        rest,
-        pause: 1,
-        left: 1,
-        asked: 0,
-        fails,
-    }
-}
-
 /// Runs `matrix` or `check` with a hesitant reader for each input, of which the one with the number `failing`
 /// fails at its end.
 fn run(
@@ -193,9 +67,9 @@ fn run(
     environments: &[u8],
     output: &mut Outlet,
 ) -> Result<Status, RunFault> {
-    let mut requirements = hesitantly(REQUIREMENTS, failing == 1);
-    let mut environments = hesitantly(environments, failing == 2);
-    let mut candidates = hesitantly(CANDIDATES, failing == 3);
+    let mut requirements = Inlet::hesitant(REQUIREMENTS, failing == 1);
+    let mut environments = Inlet::hesitant(environments, failing == 2);
+    let mut candidates = Inlet::hesitant(CANDIDATES, failing == 3);
     let vars = Vars::new(alloc, &[], "/")?;
     let (requirements, environments) = (&mut requirements, &mut environments);
     if is_matrix {
@@ -298,7 +172,7 @@ fn tells_how_matrix_ends(rt: HostRuntime) -> Result<(), Fail> {
 #[test]
 fn refuses_an_input_that_never_ends(rt: HostRuntime) -> Result<(), Fail> {
     assert_eq!(rt;
-        read_from(rt.alloc(), &mut Endless)?.as_str(),
+        read_from(rt.alloc(), &mut Inlet::new(b"", Manner::NeverEnds))?.as_str(),
         "status 2, REQS: longer than 16777216 bytes"
     );
     Ok(())
@@ -314,24 +188,13 @@ fn writes_each_piece_behind_interruptions(rt: HostRuntime) -> Result<(), Fail> {
     Ok(())
 }
 
-/// A reader without bytes, which is interrupted `left` times and then ends.
-fn interrupted(left: u64) -> Hesitant<'static> {
-    Hesitant {
-        rest: b"",
-        pause: 0,
-        left,
-        asked: 0,
-        fails: false,
-    }
-}
-
 #[test]
 fn asks_a_reader_up_to_its_limit(rt: HostRuntime) -> Result<(), Fail> {
     assert_eq!(rt; ASK_LIMIT, 33_554_432);
-    let mut reader = interrupted(99_999);
+    let mut reader = Inlet::interrupted(99_999);
     assert_eq!(rt; read_from(rt.alloc(), &mut reader)?.as_str(), "status 0");
     assert_eq!(rt; reader.asked, 100_000);
-    let mut reader = interrupted(u64::MAX);
+    let mut reader = Inlet::interrupted(u64::MAX);
     let read = read_whole(rt.alloc(), &mut reader, 10, 1000);
     assert_eq!(rt; read.err(), Some(ReadFault::Read));
     assert_eq!(rt; reader.asked, 1000);

@@ -5,12 +5,22 @@
 #[cfg(test)]
 mod again;
 #[cfg(test)]
+mod commands;
+#[cfg(test)]
 mod copies;
 #[cfg(test)]
+mod counting;
+#[cfg(test)]
 mod ends;
+#[cfg(test)]
+mod faulty;
 #[cfg(test)]
 mod formulas;
 #[cfg(test)]
 mod lists;
 #[cfg(test)]
+mod readers;
+#[cfg(test)]
 mod tables;
+#[cfg(test)]
+mod writers;

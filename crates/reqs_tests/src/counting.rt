@@ -1,0 +1,65 @@
+//! The conjunctions that a table counts: two for each set of lines that a line's marker divides.
+
+use pep508_name::PackageName;
+use pep508_tree::Interner;
+use pep508_url::Vars;
+use reqtable_requirements::Requirements;
+use reqtable_table::{Table, TableError};
+use std::alloc::{AllocError, Global};
+use std::fmt::Write;
+use std::test::Fail;
+
+/// `lines` lines of one package, with the markers `key == 'a01'`, `key == 'a02'` and so on.
+fn lines_of(alloc: Global, lines: u32, key: &str) -> Result<String, AllocError> {
+    let mut text = String::new(alloc);
+    for number in 0..lines {
+        writeln!(text, "foo ; {key} == 'a{number:02}'")?;
+    }
+    Ok(text)
+}
+
+/// The number of cases in a table of these lines, or why there is none; and the conjunctions counted for it.
+fn counted(alloc: Global, lines: &str, limit: u64) -> Result<String, AllocError> {
+    let vars = Vars::new(alloc, &[], "/w")?;
+    let mut interner = Interner::new(alloc);
+    let Ok(read) = Requirements::parse(alloc, lines.as_bytes(), &mut interner, &vars) else {
+        return String::from_str(alloc, "refused");
+    };
+    match Table::build(alloc, read, &mut interner, limit) {
+        Ok(table) => cases_told(alloc, &table, interner.conjunctions()),
+        Err(TableError::TooManyCases { package }) => {
+            let count = interner.conjunctions();
+            format!(in alloc; "too many: {package}, {count}")
+        }
+        Err(TableError::Memory) => Err(AllocError),
+    }
+}
+
+fn cases_told(alloc: Global, table: &Table, count: u64) -> Result<String, AllocError> {
+    let name = PackageName::from_str(alloc, "foo").or(Err(AllocError))?;
+    let cases = table.cases(&name).unwrap_or(&[]).len();
+    format!(in alloc; "{cases} cases, {count}")
+}
+
+fn counted_of(alloc: Global, lines: u32, key: &str, limit: u64) -> Result<String, AllocError> {
+    let text = lines_of(alloc, lines, key)?;
+    counted(alloc, &text, limit)
+}
+
+// A text that one key has divides the set that no earlier line has; an extra divides each set. By
+// `2 * lines * limit` there may be 840, 98,304, 106,496 and 327,680.
+#[test]
+fn a_table_counts_two_conjunctions_for_each_set_that_a_line_divides(
+    rt: HostRuntime,
+) -> Result<(), Fail> {
+    for (lines, key, limit, wanted) in [
+        (20, "os_name", 21, "21 cases, 40"),
+        (20, "os_name", 20, "too many: foo, 40"),
+        (12, "extra", 4096, "4096 cases, 8190"),
+        (13, "extra", 4096, "too many: foo, 16382"),
+        (40, "extra", 4096, "too many: foo, 16382"),
+    ] {
+        assert_eq!(rt; counted_of(rt.alloc(), lines, key, limit)?.as_str(), wanted);
+    }
+    Ok(())
+}
