@@ -3,7 +3,8 @@
 use crate::asked::asked as asked_of;
 use crate::environment::environment;
 use crate::evaluations::{anywhere, evaluated};
-use crate::kept::{Call, keeps};
+use crate::kept::keeps;
+use crate::made::Call;
 use crate::pairs::{one_key, pair};
 use crate::question::{extras_from, text_at};
 use crate::reading::{expression, marker, unwarned, unwarned_expression};
@@ -165,6 +166,8 @@ fn on_kept(
         left: text_at(question, 1),
         right: text_at(question, 2),
         made: text_at(question, 3),
+        given: text_at(question, 5),
+        upper: text_at(question, 6),
     };
     let environment = environment(alloc, answer, environments, text_at(question, 4))?;
     keeps(alloc, answer, interner, &environment, &call)

@@ -60,10 +60,12 @@
 //! - `["asked", TEXT]`: of what kinds the questions of the marker's tree are: `quote` (a text has a single
 //!   quote), `old` (a key is an old name), `bound` (a version is more than a release of epoch 0), several of
 //!   them in this order, or `none`
-//! - `["keeps", LEFT, RIGHT, CALL, ENVIRONMENT]`: which of both markers hold, before and after a third tree
-//!   is made, and the print of that tree. CALL is `and`, `or`, `forgotten` (`and`, forgotten, and then with
-//!   the markers in their other order), or a marker that is read. Where it is refused memory it is made once
-//!   more, if the two hold as before; else the answer is `lost`
+//! - `["keeps", LEFT, RIGHT, CALL, ENVIRONMENT, GIVEN, UPPER]`: which of both markers hold, before and after
+//!   a third tree is made, and the print of that tree. CALL is `and`, `or`, `forgotten` (`and`, forgotten,
+//!   and then with the markers in their other order), or a marker that is read; `expression`, of the
+//!   comparison GIVEN; or of the left marker `simplified` or `complexified`, with the bounds GIVEN and UPPER,
+//!   `present` or `present by closure`, with the extra GIVEN. Where it is refused memory it is made once
+//!   more, if the two hold and print as before; else the answer is `lost`
 
 mod answers;
 mod asked;
@@ -71,6 +73,7 @@ mod comparisons;
 mod environment;
 mod evaluations;
 mod kept;
+mod made;
 mod members;
 mod noted;
 mod pairs;

@@ -1,5 +1,6 @@
 //! Answers on markers that are simplified.
 
+ghost use Rattle.std.specs.Prelude.{IfOk};
 ghost use Rattle.pep508_tree.specs.Meaning.{IsTree, Extends};
 
 use crate::reading::read;
@@ -22,7 +23,7 @@ fn version(alloc: Global, answer: &mut String, text: &str) -> Result<Version, St
 }
 
 /// Returns a bound, which a bracket includes in the range and a parenthesis excludes.
-fn bound(alloc: Global, answer: &mut String, text: &str) -> Result<Bound<Version>, Stop> {
+pub fn bound(alloc: Global, answer: &mut String, text: &str) -> Result<Bound<Version>, Stop> {
     if let Some(text) = text.strip_prefix('[') {
         return Ok(Bound::Included(version(alloc, answer, text)?));
     }
@@ -32,8 +33,8 @@ fn bound(alloc: Global, answer: &mut String, text: &str) -> Result<Bound<Version
     Ok(Bound::Unbounded)
 }
 
-/// Returns the tree that the question is about.
-fn made(
+/// Returns a tree, simplified to a range of versions of Python or restricted to one.
+pub fn made_within(
     alloc: Global,
     interner: &mut Interner,
     asked: &str,
@@ -42,6 +43,7 @@ fn made(
     upper: &Bound<Version>,
 ) -> Result<MarkerTree, AllocError>
     requires { IsTree interner.old.nodes tree }
+    ensures made { IfOk result (IsTree interner.new.nodes) }
     ensures keeps { Extends interner.old.nodes interner.new.nodes }
 {
     if asked == "simplified" {
@@ -76,7 +78,7 @@ fn within_bounds(
     upper: &Bound<Version>,
 ) -> Told {
     let tree = read(alloc, answer, interner, text)?;
-    let tree = made(alloc, interner, asked, tree, lower, upper)?;
+    let tree = made_within(alloc, interner, asked, tree, lower, upper)?;
     let other = read(alloc, answer, interner, other)?;
     truth(answer, tree == other)
 }
