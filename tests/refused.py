@@ -14,7 +14,7 @@ The commands are `reqs check` on each example and on lists that are refused, `re
 and `reqs normal`, each of these asked for an object too, those of rows.py, the program's help, and the questions of
 crates/pep440_vectors and crates/pep508_vectors and every eighth of crates/pep508_marker_vectors, one a run; each stands with
 the answer that it has with ample memory. To questions of KEPT the program goes on: it makes a call that was refused memory again, and answers by it
-and by the trees that it made before. There some run has to give the whole answer after a refusal. tests/least.txt says how
+and by the trees or the table that it made before. There some run has to give the whole answer after a refusal. tests/least.txt says how
 many commands and questions there are at least. The last line is `refused: N passed, M failed`, a command or a kind of
 question each.
 """
@@ -35,7 +35,7 @@ REQS = os.path.join(TOP, "crates", "reqs_cli", "out", "reqs_cli")
 # Of the questions of each program every so many-th is asked: those on markers are many, and much alike.
 VECTORS = {"pep440_vectors": 1, "pep508_vectors": 1, "pep508_marker_vectors": 8}
 # Questions that are always asked, of a call that is made again where it was refused memory.
-KEPT = "keeps"
+KEPT = ("keeps", "keeps table")
 # What is said where there is no memory and an object is asked for.
 NO_MEMORY = objects.line_of({"error": objects.object_of_fault("reqs: out of memory\n")}).encode()
 # Every request after the first that is refused.
@@ -137,7 +137,7 @@ def try_command(library, kind, words, folder, wanted):
         tally.faults.append(f"{label}: it still asks for memory after {MOST_REQUESTS} requests")
     if refused == 0:
         tally.faults.append(f"{label}: no run told want of memory")
-    if kind == kind_of(KEPT) and tally.harmless == 0:
+    if kind in map(kind_of, KEPT) and tally.harmless == 0:
         tally.faults.append(f"{label}: no run went on after a refusal")
     return tally
 
@@ -255,7 +255,7 @@ def tasks(library, room):
     for name, step in VECTORS.items():
         for number, (question, answer) in enumerate(questions(name)):
             asked = json.loads(question)[0]
-            if number % step == 0 or asked == KEPT:
+            if number % step == 0 or asked in KEPT:
                 yield library, kind_of(asked), [program(name)], name, (0, answer, b""), question
 
 

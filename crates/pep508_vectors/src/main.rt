@@ -44,14 +44,23 @@
 //!   extra in the environment `E` of the questions on markers, and in any; the first with the kinds and texts
 //!   of the warnings
 //! - `["with-extra", TEXT, EXTRA]`: the print of the requirement once it asks for the extra too
+//! - `["keeps", TEXT, EXTRA]`: whether the requirement is meant in the environment `E` without extras, and
+//!   its print, and then its print once it asks for the extra too. Where that is refused memory it is made
+//!   once more, if the requirement is meant and prints as before; else the answer is `lost`
+//! - `["keeps table", LINES, OTHER]`: the answer of the table of these lines in the environment `E`, with the
+//!   versions 1 and 2 of `foo` as candidates, and the cases of `foo` in a table of the other lines, by the
+//!   same interner. That one is built twice; where the first attempt is refused memory the table before has
+//!   to answer as it did, else the answer is `lost`
 //! - `["of-url", TEXT]`, `["unnamed-url", TEXT]`, `["unnamed-path", TEXT]`: the URL that is made of one of
 //!   the crate `url`, and of a text and a path as of a requirement without a name, with the text that it was
 //!   given as
 
 mod answers;
+mod kept;
 mod meant;
 mod names;
 mod requirements;
+mod tables;
 mod unnamed;
 mod urls;
 mod values;

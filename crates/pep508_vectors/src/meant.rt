@@ -1,6 +1,6 @@
 //! Answers on when requirements apply.
 
-ghost use Rattle.pep508_tree.specs.Meaning.{IsTree};
+ghost use Rattle.pep508_tree.specs.Meaning.{IsTree, Extends};
 
 use crate::names;
 use pep508_environment::{MarkerEnvironment, MarkerEnvironmentBuilder};
@@ -28,7 +28,7 @@ const ENVIRONMENT: MarkerEnvironmentBuilder<'static> = MarkerEnvironmentBuilder 
     sys_platform: "linux",
 };
 
-fn environment(alloc: Global) -> Result<MarkerEnvironment, AllocError> {
+pub fn environment(alloc: Global) -> Result<MarkerEnvironment, AllocError> {
     match MarkerEnvironment::try_from(alloc, ENVIRONMENT) {
         Ok(environment) => Ok(environment),
         Err(_) => Err(AllocError),
@@ -156,7 +156,7 @@ fn unnamed_evaluated(
     told(alloc, is_there, holds, is_anywhere)
 }
 
-/// Returns the print of a requirement that is restricted to an extra too.
+/// Returns the print of a requirement that is restricted to an extra too, or what is wrong with the extra.
 pub fn with_name(
     alloc: Global,
     interner: &mut Interner,
@@ -171,13 +171,15 @@ pub fn with_name(
     }
 }
 
-fn with_extra(
+/// Returns the print of a requirement that is restricted to an extra too.
+pub fn with_extra(
     alloc: Global,
     interner: &mut Interner,
     read: &Requirement<VerbatimUrl>,
     extra: &ExtraName,
 ) -> Result<String, AllocError>
     requires { IsTree interner.old.nodes read.now.marker }
+    ensures keeps { Extends interner.old.nodes interner.new.nodes }
 {
     let copy = read.try_clone(alloc)?;
     let asked = copy.with_extra_marker(alloc, interner, extra)?;

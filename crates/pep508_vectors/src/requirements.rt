@@ -4,7 +4,7 @@ ghost use Rattle.std.specs.Prelude.{IfOk};
 ghost use Rattle.pep508_tree.specs.Meaning.{IsTree};
 
 use crate::answers::DIRECTORY;
-use crate::{meant, unnamed, warnings};
+use crate::{kept, meant, tables, unnamed, warnings};
 use pep440_specifier_list::VersionSpecifiers;
 use pep508_error::{Pep508Error, Pep508ErrorSource};
 use pep508_name::{ExtraName, RequirementOrigin};
@@ -34,7 +34,9 @@ pub fn answer(
         | "copy"
         | "print"
         | "meant"
+        | "keeps"
         | "with-extra" => of_text(alloc, vars, kind, text, other),
+        "keeps table" => tables::keeps(alloc, vars, text, other),
         "plain" => plain(alloc, vars, text),
         "extras" => extras(alloc, text),
         "warnings" => warnings::warnings(alloc, vars, text),
@@ -115,6 +117,7 @@ fn told(
         "copy" => copied(alloc, read),
         "print" => printed(alloc, vars, interner, read),
         "meant" => meant::of_name(alloc, interner, read, other),
+        "keeps" => kept::keeps(alloc, interner, read, other),
         _ => meant::with_name(alloc, interner, read, other),
     }
 }
