@@ -13,7 +13,6 @@ None is made before those below are there, and what lay in out/ is removed first
 only where all below it are, since its libraries hold statements alone, which fit just those over which they were made.
 """
 
-import copy
 import os
 import re
 import shutil
@@ -21,10 +20,10 @@ import tempfile
 from concurrent.futures import ThreadPoolExecutor
 
 import keys
+import linked
 import seen
 import toolchain
-from crates import kit_folder
-from prover import CPU, LIBRARY, MARK, PROGRAM, SECONDS, STATIC, TESTS, Prover, archive_of, read
+from prover import LIBRARY, MARK, PROGRAM, SECONDS, STATIC, TESTS, Prover, read
 from store import Store
 
 WORK = "work"
@@ -152,37 +151,13 @@ class KeptProver(Prover):
         return status, text
 
     def build(self, crate, flags, tests, work):
-        kind, to = self.kind(crate.name, tests), f"out/{crate.name}"
+        kind = self.kind(crate.name, tests)
         words = [*crate.words(flags, tests=tests, keeps=False), "--incremental", work]
-        if kind == LIBRARY:
-            shutil.rmtree(os.path.dirname(crate.rlib), ignore_errors=True)
-            os.makedirs(os.path.dirname(crate.rlib))
-            return crate.prove(["build", *words, "-o", crate.rlib])
-        words += ["--toolchain", os.path.join(kit_folder(), "toolchain")]
-        if kind == STATIC:
-            return crate.prove(["build", *words, "--cpu", CPU, "--backend", "llvm", "-o", f"out/{archive_of(crate.name)}"])
-        if kind == TESTS:
-            return self.build_by_llvm(crate, words, f"{to}_tests")
-        if not os.listdir(work):
-            return self.build_by_llvm(crate, words, to) or crate.compile_by("rattle", words, to)
-        return self.build_beside(crate, words, to, work)
-
-    def build_by_llvm(self, crate, words, to):
-        status = crate.prove(["build", *words, "--backend", "llvm", "-o", f"{to}.o"])
-        is_made = not status and os.path.getsize(os.path.join(crate.folder, f"{to}.o"))
-        return crate.link(f"{to}.o", to) if is_made else status
-
-    def build_beside(self, crate, words, to, work):
-        """Has a program built by both compilers at a time, by one of them over a copy of the kept work."""
-        other = copy.copy(crate)
-        with tempfile.TemporaryDirectory(prefix="reqs-kept-") as room, tempfile.TemporaryFile("w+", errors="replace") as other.out:
-            copied = shutil.copytree(work, os.path.join(room, WORK))
-            with ThreadPoolExecutor() as pool:
-                beside = pool.submit(other.compile_by, "rattle", [copied if it == work else it for it in words], to)
-                status = self.build_by_llvm(crate, words, to)
-            other.out.seek(0)
-            print(other.out.read(), end="", file=crate.out, flush=True)
-            return status or beside.result()
+        if kind != LIBRARY:
+            return linked.build(crate, kind, words, work)
+        shutil.rmtree(os.path.dirname(crate.rlib), ignore_errors=True)
+        os.makedirs(os.path.dirname(crate.rlib))
+        return crate.prove(["build", *words, "-o", crate.rlib])
 
     def told(self):
         for it in self.packed:

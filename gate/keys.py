@@ -14,6 +14,8 @@ from crates import TOP, sum_of_file, toolchain_sum
 # The scripts that say whether a crate is proved from nothing, and those that say so of an everyday run.
 OF_PROOFS = tuple(f"gate/{it}.py" for it in ("crates", "keys", "lanes", "prove", "prover", "store", "together", "toolchain"))
 OF_KEPT = (*OF_PROOFS, "gate/kept.py")
+# The same of what is linked.
+OF_LINKED = (*OF_KEPT, "gate/linked.py")
 
 
 def summed(said):
@@ -40,5 +42,5 @@ def of_proof(crates, name):
 
 
 def of_everyday_proof(crates, name):
-    """The same of a proof for which the store's kept work was looked at, whether there was any or not."""
-    return summed((crates.sum(name), scripts_sum(OF_KEPT), "everyday"))
+    """The same of what is linked, for which the store's kept work was looked at, whether there was any or not."""
+    return summed((crates.sum(name), scripts_sum(OF_LINKED), "everyday"))
