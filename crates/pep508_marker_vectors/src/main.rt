@@ -1,8 +1,8 @@
 #![tactic(auto)]
 //! Answers questions on markers, one a line, whose answers are known from elsewhere.
 //!
-//! A question is a JSON list: what is asked, and the texts that it is asked of. `data/environments.txt` has the
-//! environments that it may name: a line each, its name, a tab and its JSON value.
+//! A question is a JSON list: what is asked, and the texts that it is asked of. `data/environments.txt` has
+//! the environments that it may name: a line each, its name, a tab and its JSON value.
 //!
 //! # Questions
 //!

@@ -5,7 +5,8 @@
 //! answered too. Of a URL only that there is one is known.
 
 ghost use Rattle.std.specs.Prelude.{◌≡◌};
-ghost use Rattle.reqtable_answer.specs.Says.{ask_seen, marked_seen, source_seen, requirement_seen, wanted_seen};
+ghost use Rattle.reqtable_answer.specs.Says.{ask_seen, marked_seen, source_seen, wanted_seen};
+ghost use Rattle.reqtable_answer.specs.Says.{requirement_seen};
 
 use pep440_specifier_list::VersionSpecifiers;
 use pep508_name::{ExtraName, PackageName};
