@@ -22,7 +22,7 @@ typedef struct {
     PyObject *normal;    /* the normal text, or NULL until it is asked for; then the next two are known */
     Py_ssize_t base_len; /* of epoch and release */
     int flags;           /* which of PRE, POST and DEV it has */
-    PyObject *parts;     /* the parts, or NULL until they are asked for */
+    PyObject *parts[6];  /* the parts, or NULL until they are asked for */
     Py_hash_t hash;      /* 0 until it is asked for */
     PyObject *weak;
     uint8_t *key;
@@ -36,7 +36,7 @@ static void version_dealloc(PyObject *self) {
     if (it->weak) PyObject_ClearWeakRefs(self);
     Py_XDECREF(it->given);
     Py_XDECREF(it->normal);
-    Py_XDECREF(it->parts);
+    for (int i = 0; it->parts[0] && i < 6; i++) Py_DECREF(it->parts[i]);
     if (it->key != it->own) free(it->key);
     ((freefunc)PyType_GetSlot(type, Py_tp_free))(self);
     Py_DECREF(type);
@@ -162,17 +162,25 @@ static void store_normal(Version *it, PyObject *normal, const uint8_t *at, size_
     it->normal = normal;
 }
 
+/* Whether a version's text has only numbers without zeros before them, and so is the normal text. */
+static int is_plain_release(Text text) {
+    for (size_t i = 0; i < text.len; i++) {
+        int is_first = i == 0 || text.at[i - 1] == '.', is_last = i + 1 == text.len || text.at[i + 1] == '.';
+        if (text.at[i] != '.' && (!is_digit(text.at[i]) || (text.at[i] == '0' && is_first && !is_last))) return 0;
+    }
+    return 1;
+}
+
 /* Has the normal text read, where it isn't yet. */
 static int read_normal(Version *it) {
     Text text, answered;
     if (it->normal) return 0;
+    PyObject *bytes = NULL, *normal = NULL;
     if (!is_made(it) || text_of(it->given, &text)) return -1;
-    PyObject *bytes = answer(&version_call, &text, 0, 0), *normal = NULL;
-    if (bytes && !text_of_bytes(bytes, &answered)) {
-        if (answered.len == text.len && !memcmp(answered.at, text.at, text.len)) {
-            normal = it->given;
-            Py_INCREF(normal);
-        } else normal = PyUnicode_DecodeUTF8((const char *)answered.at, (Py_ssize_t)answered.len, NULL);
+    if (is_plain_release(answered = text)) normal = shared(it->given);
+    else if ((bytes = answer(&version_call, &text, 0, 0)) && !text_of_bytes(bytes, &answered)) {
+        if (answered.len == text.len && !memcmp(answered.at, text.at, text.len)) normal = shared(it->given);
+        else normal = PyUnicode_DecodeUTF8((const char *)answered.at, (Py_ssize_t)answered.len, NULL);
     }
     if (normal && it->normal) Py_DECREF(normal);
     else if (normal) store_normal(it, normal, answered.at, answered.len);
@@ -216,10 +224,10 @@ static PyObject *read_pre(const uint8_t **at, int has) {
 
 enum { EPOCH, RELEASE, PRE_PART, POST_PART, DEV_PART, LOCAL, PARTS };
 
-/* The parts of a normal text, which ends in a 0. */
-static PyObject *parts_of(const Version *it, const uint8_t *at) {
+/* Reads the parts of a normal text, which ends in a 0. */
+static int read_parts(Version *it, const uint8_t *at) {
+    PyObject *all[PARTS] = {NULL}, **parts = it->parts;
     const uint8_t *end = at + it->base_len;
-    PyObject *all[PARTS] = {NULL}, *parts = PyTuple_New(PARTS);
     if (memchr(at, '!', (size_t)it->base_len)) {
         all[EPOCH] = number(&at);
         at++;
@@ -228,30 +236,22 @@ static PyObject *parts_of(const Version *it, const uint8_t *at) {
     all[PRE_PART] = read_pre(&at, it->flags & PRE);
     all[POST_PART] = number_after(&at, strlen(".post"), it->flags & POST);
     all[DEV_PART] = number_after(&at, strlen(".dev"), it->flags & DEV);
-    all[LOCAL] = *at == '+' ? PyUnicode_FromString((const char *)at + 1) : number_after(&at, 0, 0);
-    for (int i = 0; i < PARTS; i++) {
-        if (!all[i]) Py_CLEAR(parts);
-        if (!parts) Py_XDECREF(all[i]);
-        else if (PyTuple_SetItem(parts, i, all[i])) Py_CLEAR(parts);
-    }
-    return parts;
-}
-
-static PyObject *version_parts(Version *it) {
-    if (it->parts) return it->parts;
-    if (read_normal(it)) return NULL;
-    const char *at = PyUnicode_AsUTF8AndSize(it->normal, NULL);
-    PyObject *parts = at ? parts_of(it, (const uint8_t *)at) : NULL;
-    if (parts && it->parts) Py_DECREF(parts);
-    else it->parts = parts;
-    return it->parts;
+    all[LOCAL] = *at == '+' ? PyUnicode_FromString((const char *)at + 1) : shared(Py_None);
+    int made = 0, had = parts[0] != NULL;
+    while (made < PARTS && all[made]) made++;
+    for (int i = 0; i < PARTS; i++)
+        if (made == PARTS && !had) parts[i] = all[i];
+        else Py_XDECREF(all[i]);
+    return made == PARTS ? 0 : -1;
 }
 
 static PyObject *version_part(PyObject *self, void *which) {
-    PyObject *parts = version_parts((Version *)self);
-    PyObject *part = parts ? PyTuple_GetItem(parts, (intptr_t)which) : NULL;
-    Py_XINCREF(part);
-    return part;
+    Version *it = (Version *)self;
+    if (!it->parts[0]) {
+        const char *at = read_normal(it) ? NULL : PyUnicode_AsUTF8AndSize(it->normal, NULL);
+        if (!at || read_parts(it, (const uint8_t *)at)) return NULL;
+    }
+    return shared(it->parts[(intptr_t)which]);
 }
 
 static PyObject *version_flag(PyObject *self, void *which) {

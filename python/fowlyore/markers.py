@@ -7,7 +7,7 @@ import os
 import platform
 import re
 import sys
-from typing import Any, Callable, Dict, Iterable, List, Literal, Mapping, NamedTuple, Optional, Tuple, Type, Union
+from typing import TYPE_CHECKING, Any, Callable, Dict, Iterable, List, Literal, Mapping, NamedTuple, Optional, Tuple, Type, Union
 
 from . import _native
 from .errors import Refused, on_one_line, refusal
@@ -129,9 +129,19 @@ def completed(given: Optional[Mapping[str, Any]]) -> Dict[str, Any]:
     return environment
 
 
-# The JSON of environments by the values of their members, which are all texts, and how many are kept.
+# The JSON of environments by the values of their members, which are all texts; what was read of environments that were
+# given, with the running one that it was completed by; the library's answers on single markers, by what it was asked.
 _kept_json: Dict[Tuple[Any, ...], bytes] = {}
-_MOST_KEPT = 64
+_kept_given: Dict[Tuple[Any, ...], Tuple[Dict[str, str], bytes, Any]] = {}
+_kept_answers: Dict[Tuple[str, bytes, Any], bool] = {}
+# How many environments are kept, and how many answers.
+_MOST_KEPT, _MOST_ANSWERS = 64, 4096
+
+
+def _keep(kept: Dict[Any, Any], asked: Any, answer: Any, most: int) -> None:
+    if len(kept) >= most:
+        kept.clear()
+    kept[asked] = answer
 
 
 def environment_json(environment: Mapping[str, Any]) -> bytes:
@@ -143,10 +153,23 @@ def environment_json(environment: Mapping[str, Any]) -> bytes:
     made = _kept_json.get(values)
     if made is None:
         made = _json_of(environment)
-        if len(_kept_json) >= _MOST_KEPT:
-            _kept_json.clear()
-        _kept_json[values] = made
+        _keep(_kept_json, values, made, _MOST_KEPT)
     return made
+
+
+def _read_environment(given: Optional[Mapping[str, Any]]) -> Tuple[bytes, Any]:
+    """The JSON of the running interpreter's environment with other values put in, and the extra there."""
+    running, items = _running(), tuple(given.items()) if given else ()
+    try:
+        kept = _kept_given.get(items)
+    except TypeError:  # a value that can't be hashed
+        kept = None
+    if kept is None or kept[0] is not running:
+        values = completed(given)
+        kept = running, environment_json(values), values.get("extra")
+        if {str}.issuperset(type(it) for _, it in items):
+            _keep(_kept_given, items, kept, _MOST_KEPT)
+    return kept[1:]
 
 
 def _json_of(environment: Mapping[str, Any]) -> bytes:
@@ -222,14 +245,15 @@ class Marker:
     "python_full_version >= '3.8' and os_name == 'nt'"
     """
 
-    __slots__ = ("_given", "_truth", "_key", "_text", "_shape", "_found_shape", "__weakref__")
+    __slots__ = ("_given", "_truth", "_key", "_text", "_joined", "_is_ignored", "_found_shape", "__weakref__")
 
     _given: str
     _truth: Optional[bytes]
     _key: Optional[bytes]
     _text: Optional[str]
-    # (of what `&` and `|` made alone)
-    _shape: Optional[_Shape]
+    # The two that `&` or `|` made it of, and whether it was `&`; nothing once its text is known.
+    _joined: "Union[Tuple[()], Tuple[Marker, Marker, bool]]"
+    _is_ignored: Optional[bool]
     _found_shape: Optional[_Shape]
 
     def __init__(self, marker: str) -> None:
@@ -243,10 +267,21 @@ class Marker:
             raise refusal(InvalidMarker, fault, marker, message) from None
         self._set(marker.strip(), truth)
 
-    def _set(self, given: str, truth: Optional[bytes] = None, shape: Optional[_Shape] = None) -> None:
-        self._given, self._truth, self._shape = given, truth, shape
-        self._key = self._text = None
-        self._found_shape = shape
+    def _set(self, given: str, truth: Optional[bytes] = None) -> None:
+        self._given, self._truth, self._joined = given, truth, ()
+        self._key = self._text = self._is_ignored = self._found_shape = None
+
+    if not TYPE_CHECKING:
+
+        def __getattr__(self, name: str) -> Any:
+            """What of a marker that `&` or `|` made is found once it is asked for."""
+            if name == "_given":
+                self._given, self._joined = _text_of_joined(self), ()
+            elif name in ("_truth", "_key", "_text", "_is_ignored", "_found_shape"):
+                setattr(self, name, None)
+            else:
+                raise AttributeError(f"{type(self).__name__!r} object has no attribute {name!r}")
+            return getattr(self, name)
 
     def __reduce__(self) -> "Tuple[type, Tuple[str]]":
         return self.__class__, (self._given,)
@@ -334,54 +369,36 @@ class Marker:
         return _native.marker_implies(self._bytes(), other._bytes())
 
     def __and__(self, other: "Marker") -> "Marker":
-        """The conjunction: a marker that holds where both do.
+        """The conjunction: a marker that holds where both do. Its text is written once it is needed, and `InvalidMarker` is
+        raised then if brackets would nest deeper than 256 there.
 
         >>> Marker("os_name == 'nt' or os_name == 'posix'") & Marker("os_name != 'nt'") & Marker("extra == 'x'")
         <Marker("os_name == 'posix' and extra == 'x'")>
         """
         if not isinstance(other, Marker):
             return NotImplemented
-        if self._may_be_left_out():
-            return other
-        if other._may_be_left_out():
-            return self
-        (left, left_depth), (right, right_depth) = self._as_term(), other._as_term()
-        return marker_of(f"{left} and {right}", _Shape(False, max(left_depth, right_depth)))
+        made = _new(Marker)
+        made._joined = self, other, True
+        return made
 
     def __or__(self, other: "Marker") -> "Marker":
-        """The disjunction: a marker that holds where one of them does.
+        """The disjunction: a marker that holds where one of them does. Its text is written once it is needed, as by `&`.
 
         >>> Marker("os_name == 'nt'") | Marker("os_name == 'posix'")
         <Marker("os_name == 'nt' or os_name == 'posix'")>
         """
         if not isinstance(other, Marker):
             return NotImplemented
-        if self._may_be_left_out():
-            return self
-        if other._may_be_left_out():
-            return other
-        depth = max(self._shaped().depth, other._shaped().depth)
-        return marker_of(f"{self._given} or {other._given}", _Shape(True, depth))
+        made = _new(Marker)
+        made._joined = self, other, False
+        return made
 
-    def _may_be_left_out(self) -> bool:
-        """Whether it always holds, and perhaps because none of its comparisons means anything: by itself such
-        a marker holds, but `and` and `or` ignore it. What `&` and `|` made has a comparison that means
-        something."""
-        return self._shape is None and self._constant() == b"1"
-
-    def _shaped(self) -> _Shape:
-        if self._found_shape is None:
-            self._found_shape = _shape_of(self._given)
-        return self._found_shape
-
-    def _as_term(self) -> Tuple[str, int]:
-        """Its text as a term of `and`, and how deep brackets are nested there. If they would be too deep it
-        is another text, in which they aren't, if there is one."""
-        text, shape = self._given, self._shaped()
-        if shape.has_or and shape.depth == _DEEPEST:
-            text = self._normal_text() or _CONSTANTS.get(self._constant(), text)
-            shape = _shape_of(text)
-        return (f"({text})", shape.depth + 1) if shape.has_or else (text, shape.depth)
+    def _may_be_ignored(self) -> bool:
+        """Whether `and` and `or` may ignore it: it always holds, perhaps because none of its comparisons means anything. What
+        they joined has a comparison that means something."""
+        if self._is_ignored is None:
+            self._is_ignored = not self._joined and self._constant() == b"1"
+        return self._is_ignored
 
     def __invert__(self) -> "Marker":
         return self.negate()
@@ -445,19 +462,89 @@ class Marker:
         >>> Marker("python_version >= '3.14'").evaluate(early)
         True
         """
-        values = completed(environment)
-        extra = values.get("extra")
-        names = _native.encoded(_lines_of([extra])) if extra else b""
-        return _answers([self], f"{self._given}\n", values, names) == b"1"
+        values, extra = _read_environment(environment)
+        asked = self._given, values, extra
+        answer = _kept_answers.get(asked) if not extra or type(extra) is str else None
+        if answer is None:
+            names = _native.encoded(_lines_of([extra])) if extra else b""
+            answer = _answers([self], f"{self._given}\n", values, names) == b"1"
+            _keep(_kept_answers, asked, answer, _MOST_ANSWERS)
+        return answer
 
 
-def marker_of(text: str, shape: Optional[_Shape] = None) -> Marker:
-    """The marker of a text that is known to be one, except that its brackets may be nested too deep."""
-    if shape is not None and shape.depth > _DEEPEST:
-        return Marker(text)
-    marker = Marker.__new__(Marker)
-    marker._set(text, shape=shape)
+def marker_of(text: str) -> Marker:
+    """The marker of a text that is known to be one."""
+    marker = _new(Marker)
+    marker._set(text)
     return marker
+
+
+_new = object.__new__
+
+
+def _shape(marker: Marker) -> _Shape:
+    """The shape of a marker's text, and of all that it was joined of, the lowest first."""
+    left = [marker]
+    while left:
+        at = left[-1]
+        parts = at._joined[:2] if at._found_shape is None else ()
+        unknown = [it for it in parts if it._found_shape is None]
+        if not unknown:
+            left.pop()
+            if parts:
+                _settle(at)
+            elif at._found_shape is None:
+                at._found_shape = _shape_of(at._given)
+        left += unknown
+    assert marker._found_shape is not None
+    return marker._found_shape
+
+
+def _settle(marker: Marker) -> None:
+    """Finds the shape of a marker that was joined of two whose shapes are known."""
+    left, right, is_and = marker._joined  # type: ignore[misc]
+    if left._may_be_ignored() or right._may_be_ignored():
+        alone = right if left._may_be_ignored() == is_and else left
+        marker._given, marker._joined, marker._is_ignored = alone._given, (), alone._may_be_ignored()
+        marker._found_shape = alone._found_shape
+        return
+    marker._is_ignored = False
+    if not is_and:
+        marker._found_shape = _Shape(True, max(_shape(left).depth, _shape(right).depth))
+        return
+    left, right = _as_term(left), _as_term(right)
+    marker._joined = left, right, True
+    marker._found_shape = _Shape(False, max(it.depth + it.has_or for it in (_shape(left), _shape(right))))
+
+
+def _as_term(marker: Marker) -> Marker:
+    """A marker as a term of `and`. If its brackets would be too deep there it is one of another text, in which they aren't, if
+    there is one."""
+    shape = _shape(marker)
+    if not shape.has_or or shape.depth < _DEEPEST:
+        return marker
+    text = marker._normal_text() or _CONSTANTS.get(marker._constant())
+    return marker_of(text) if text else marker
+
+
+def _text_of_joined(marker: Marker) -> str:
+    """The text of what `&` or `|` made, in time linear in it. Raises `InvalidMarker` if brackets are too deep there."""
+    is_too_deep = _shape(marker).depth > _DEEPEST
+    pieces: List[str] = []
+    left: List[Union[str, Marker]] = [marker]
+    while left:
+        it = left.pop()
+        if isinstance(it, str):
+            pieces.append(it)
+        elif not it._joined:
+            pieces.append(it._given)
+        elif it._joined[2]:
+            first, second = ([")", of, "("] if _shape(of).has_or else [of] for of in it._joined[:2])
+            left += [*second, " and ", *first]
+        else:
+            left += [it._joined[1], " or ", it._joined[0]]
+    text = "".join(pieces)
+    return Marker(text)._given if is_too_deep else text
 
 
 def _lines_of(extras: Iterable[str]) -> str:
@@ -473,14 +560,14 @@ def _lines_of(extras: Iterable[str]) -> str:
 def holds(markers: List[Marker], environment: Mapping[str, Any], extras: List[str]) -> List[bool]:
     """Whether each marker holds in an environment with extras, by one call."""
     names = _native.encoded(_lines_of(extras))
-    answers = _answers(markers, "".join(f"{it._given}\n" for it in markers), environment, names)
+    answers = _answers(markers, "".join(f"{it._given}\n" for it in markers), environment_json(environment), names)
     return [it == ord("1") for it in answers]
 
 
-def _answers(markers: List[Marker], lines: str, environment: Mapping[str, Any], names: bytes) -> bytes:
-    """The library's answers on markers, which stand in these lines too."""
+def _answers(markers: List[Marker], lines: str, environment: bytes, names: bytes) -> bytes:
+    """The library's answers on markers, which stand in these lines too, in the environment of this JSON."""
     try:
-        answers = _native.markers_hold(_native.encoded(lines), environment_json(environment), names)
+        answers = _native.markers_hold(_native.encoded(lines), environment, names)
     except _native.Fault as fault:
         raise UndefinedEnvironmentName(fault.message) from None
     if b"?" in answers:

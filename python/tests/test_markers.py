@@ -173,6 +173,13 @@ class Algebra(unittest.TestCase):
                     self.assertIs(it.evaluate({"os_name": name, "extra": "x5"}), name == "posix" or either is any)
             self.assertEqual(left._given, right._given)
 
+    def test_a_chain_of_many(self):
+        """What 100,000 calls joined is written once, in time linear in it."""
+        one, other = Marker("os_name == 'a'"), Marker("extra == 'b'")
+        marker = functools.reduce(lambda whole, it: whole | (one if it % 2 else other), range(100_000), one)
+        self.assertEqual(len(marker._given), 100_001 * len("os_name == 'a'") + 100_000 * len(" or ") - 50_000 * 2)
+        self.assertTrue(marker.evaluate({"os_name": "a"}))
+
     def test_chains_of_both(self):
         """Where brackets would nest too deep another text stands in them, if there is one."""
         texts = ["os_name == 'nt'", "os_name == 'nt' or sys_platform == 'b0'", NEVER, """os_name == "it's\""""]
@@ -182,8 +189,9 @@ class Algebra(unittest.TestCase):
                 marker = (marker | Marker(f"extra == 'a{it % 3}'")) & Marker(f"sys_platform != 'b{it % 3}'")
             marker |= Marker("os_name == 'c'")
             if text == texts[-1]:
-                with self.assertRaises(InvalidMarker):
-                    marker & Marker("os_name != 'd'")
+                for use in (str, hash, Marker.evaluate, Marker.is_true):
+                    with self.assertRaises(InvalidMarker):
+                        use(marker & Marker("os_name != 'd'"))
                 continue
             marker &= Marker("os_name != 'd'")
             for name, extra in (("nt", ""), ("d", "a1"), ("x", "a2"), ("c", "")):
