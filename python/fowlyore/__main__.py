@@ -340,11 +340,11 @@ def has_colours() -> bool:
 
 
 def run_matrix(words: argparse.Namespace) -> int:
-    environments = environments_input(source(words.environments))
-    candidates = candidates_of(words, Interpreter(unknown=NO_INTERPRETER))
-    inputs: Any = (asked(words), environments, candidates, words.extra)
+    environments: Any = environments_input(source(words.environments))
+    candidates: Any = candidates_of(words, Interpreter(unknown=NO_INTERPRETER))
     with Progress("answering for each environment"):
-        answers = matrix(*inputs, limit=words.limit, ignore_requires_python=words.ignore_requires_python)
+        how = {"limit": words.limit, "ignore_requires_python": words.ignore_requires_python}
+        answers = matrix(asked(words), environments, candidates, words.extra, **how)
     if words.format == "text":
         for number, rows in enumerate(answers, 1):
             show(f"env {number}", *rows)

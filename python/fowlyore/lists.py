@@ -420,7 +420,7 @@ def _hold_to_file(
         if it.what != REQUIRES_PYTHON or SpecifierSet(it.text).contains(Version(full).base_version):
             continue
         line = Input("requirements", _native.encoded(it.line))
-        if not it.line or answered(_native.check, line, alone, Input("candidates", b""), extras):
+        if not it.line or answered(_native.check, line, alone, Input("candidates", b""), extras) != "":
             why = f"Python {full} is not in {it.text}, which {it.place} asks for"
             raise InvalidInput(f"{front}{why}", input=given.name, path=given.path)
     markers = _native.encoded("\n".join(it.text for it in listing.assumed if it.what == ENVIRONMENTS))

@@ -121,7 +121,11 @@ def _running() -> Dict[str, str]:
 def completed(given: Optional[Mapping[str, Any]]) -> Dict[str, Any]:
     """The running interpreter's environment with other values put in. Markers read only
     `python_full_version`, so that it follows `python_version` if only that is given."""
-    environment: Dict[str, Any] = dict(_running())
+    return _completed(_running(), given)
+
+
+def _completed(running: Dict[str, str], given: Optional[Mapping[str, Any]]) -> Dict[str, Any]:
+    environment: Dict[str, Any] = dict(running)
     if given is not None:
         environment.update(given)
         if "python_version" in given and "python_full_version" not in given:
@@ -165,7 +169,7 @@ def _read_environment(given: Optional[Mapping[str, Any]]) -> Tuple[bytes, Any]:
     except TypeError:  # a value that can't be hashed
         kept = None
     if kept is None or kept[0] is not running:
-        values = completed(given)
+        values = _completed(running, given)
         kept = running, environment_json(values), values.get("extra")
         if {str}.issuperset(type(it) for _, it in items):
             _keep(_kept_given, items, kept, _MOST_KEPT)
@@ -527,6 +531,11 @@ def _as_term(marker: Marker) -> Marker:
     return marker_of(text) if text else marker
 
 
+def _pushed(term: Marker) -> "List[Union[str, Marker]]":
+    """A term of `and`, from its end."""
+    return [")", term, "("] if _shape(term).has_or else [term]
+
+
 def _text_of_joined(marker: Marker) -> str:
     """The text of what `&` or `|` made, in time linear in it. Raises `InvalidMarker` if brackets are too deep there."""
     is_too_deep = _shape(marker).depth > _DEEPEST
@@ -539,8 +548,7 @@ def _text_of_joined(marker: Marker) -> str:
         elif not it._joined:
             pieces.append(it._given)
         elif it._joined[2]:
-            first, second = ([")", of, "("] if _shape(of).has_or else [of] for of in it._joined[:2])
-            left += [*second, " and ", *first]
+            left += [*_pushed(it._joined[1]), " and ", *_pushed(it._joined[0])]
         else:
             left += [it._joined[1], " or ", it._joined[0]]
     text = "".join(pieces)
