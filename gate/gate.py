@@ -14,6 +14,7 @@ M is 0, and 2 where the words are others. Before it stands what was left out, fo
 Parts that read texts are run side by side, beside the proofs; so are then those that run programs.
 """
 
+import json
 import os
 import re
 import resource
@@ -137,23 +138,32 @@ def run(part, show):
 
 def judged(part, crates, store, show):
     """What passed and failed of a part, and what it left out; it isn't run where the store has the verdict that nothing
-    failed and nothing was left out."""
+    failed."""
     began = time.monotonic()
     show(f"test: {part.name}\n")
     if part.missing():
         show(f"test: {part.name}: 0 passed, 1 failed, since it rests on what isn't there: {', '.join(part.missing())}\n")
         return 0, 1, []
     entry = part.entry(crates)
-    kept = re.fullmatch(r"(\d+) passed", store.verdict(entry) or "") if entry else None
+    kept = verdict_of(store.verdict(entry)) if entry else None
     if kept:
-        show(f"    {kept[1]} passed, taken from the store\n")
-        good, bad, left = int(kept[1]), 0, []
+        show(f"    {kept[0]} passed, taken from the store\n")
+        good, bad, left = kept[0], 0, kept[1]
     else:
         good, bad, left = run(part, show)
-        if entry and not left and not bad and part.entry(Crates()) == entry:
-            store.keep_verdict(entry, f"{good} passed")
+        if entry and not bad and part.entry(Crates()) == entry:
+            store.keep_verdict(entry, json.dumps([good, left]))
     show(f"test: {part.name}: {good} passed, {bad} failed in {time.monotonic() - began:.0f} s\n")
     return good, bad, [f"{part.name}: {it}" for it in left]
+
+
+def verdict_of(line):
+    """What passed and what was left out, of a line that was kept; None of any other."""
+    try:
+        good, left = json.loads(line or "")
+    except (TypeError, ValueError):
+        return None
+    return (good, left) if good > 0 else None
 
 
 def judged_apart(part, crates, store):

@@ -21,6 +21,8 @@ OF_PARTS = ("gate/crates.py", "gate/gate.py", "gate/keys.py", "gate/store.py", "
 # What the parts that run programs call.
 TOOLS = ("ar", "bash", "cargo", "cc", "dpkg", "dpkg-deb", "ld", "mypy", "nm", "objcopy", "rustc", "strip")
 MODULES = "import sys; print(sys.version)", "import pip; print(pip.__version__)", "import distributed; print(distributed.__version__)"
+# What is tried only where somebody has fetched it.
+FETCHED = os.path.join(TOP, "out", "packaging_suite", "source", "packaging-*")
 # Variables on which no verdict rests: where things lie, how many jobs there are, and what the shell sets by itself.
 IDLE = {"BASH_SOURCE", "COMPREPLY", "COMP_CWORD", "COMP_WORDS", "FOWLYORE_CACHE", "HOME", "PATH", "PIPESTATUS", "PWD", "RT_JOBS",
         "TMPDIR", "XDG_CACHE_HOME"}
@@ -41,7 +43,8 @@ def of_part(words, rests_on):
     inside = [it for of in rests_on for it in glob.glob(os.path.join(TOP, of, "**", "*.[pr][ys]"), recursive=True)]
     looked_at = variables([*scripts, *(os.path.relpath(it, TOP) for it in inside)])
     files = sum_of_files(os.path.join(TOP, it) for it in rests_on)
-    return summed((words, files, scripts_sum((*OF_PARTS, *scripts)), looked_at, versions()))
+    fetched = [os.path.basename(it) for it in glob.glob(FETCHED)]
+    return summed((words, files, scripts_sum((*OF_PARTS, *scripts)), looked_at, versions(), fetched))
 
 
 def reached(scripts):

@@ -51,19 +51,22 @@ fi
 # Runs the tests by an interpreter, which calls the library by the extension or, where that is `no`, by ctypes.
 run_tests() {
     cd "$top/python" || return
+    [ -z "$4" ] || export FOWLYORE_RANDOM=$4
     FOWLYORE_EXTENSION=$3 FOWLYORE_LIBRARY=$library "$2" -W error -m unittest discover -q -t . -s tests >"$work/said-$1" 2>&1
 }
 
-# Interpreters work side by side, and the newest by ctypes too.
+# Interpreters work side by side, and the newest by ctypes too. All but the newest try fewer random texts, unless a number is given.
 for version in "${!interpreters[@]}"; do
     way=$extension
     [ "${version#*.}" -ge 10 ] || way=no
-    run_tests "$version" "${interpreters[$version]}" "$way" &
+    few=${FOWLYORE_RANDOM-1000}
+    [ "$version" != "$newest" ] || few=${FOWLYORE_RANDOM-}
+    run_tests "$version" "${interpreters[$version]}" "$way" "$few" &
 done
 runs=("${!interpreters[@]}")
 if [ "$extension" != no ]; then
     runs+=("$newest by ctypes")
-    run_tests "$newest by ctypes" "${interpreters[$newest]}" no &
+    run_tests "$newest by ctypes" "${interpreters[$newest]}" no "${FOWLYORE_RANDOM-1000}" &
 fi
 wait
 
