@@ -392,7 +392,14 @@ class SpecifierSet:
         said = {self._prereleases, other._prereleases} - {None}
         if len(said) > 1:
             raise ValueError("Cannot combine SpecifierSets with True and False prerelease overrides.")
-        return SpecifierSet(self._specs + other._specs, said.pop() if said else None)
+        prereleases = said.pop() if said else None
+        if hasattr(self, "_made") or hasattr(other, "_made"):
+            return SpecifierSet(self._specs + other._specs, prereleases)
+        # Members are read off both texts once they are asked for.
+        both = SpecifierSet.__new__(SpecifierSet)
+        both._given = ",".join(filter(None, (self._given, other._given)))
+        both._bytes, both._prereleases = _native.encoded(both._given), prereleases
+        return both
 
     def __eq__(self, other: object) -> bool:
         if isinstance(other, (str, Specifier)):

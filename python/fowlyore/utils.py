@@ -3,6 +3,7 @@
 
 What a name is, and what a version is, is the library's answer."""
 
+import functools
 import itertools
 import re
 from typing import FrozenSet, List, NamedTuple, NewType, Tuple, Type, Union
@@ -73,6 +74,11 @@ class Tag(NamedTuple):
         return "-".join(self)
 
 
+# How many names and tags of wheels are kept with what was found for them.
+_KEPT = 4096
+
+
+@functools.lru_cache(maxsize=_KEPT)
 def normal_name(name: str) -> str:
     """A name's normal form, or an empty text if it is not a name."""
     if not _NAME.fullmatch(name):
@@ -154,13 +160,18 @@ def parse_wheel_filename(
         raise _refused(InvalidWheelFilename, filename, why, 0, parts[0])
     name, version = _named(InvalidWheelFilename, filename, parts[0], parts[1])
     build = _build_of(filename, parts)
-    sets = [it.split(".") for it in parts[-3:]]
-    if validate_order and any(it != sorted(it) for it in sets):
+    if validate_order and any(it != sorted(it) for it in (part.split(".") for part in parts[-3:])):
         tags = "-".join(parts[-3:])
         start = len(filename) - len(".whl") - len(tags)
         raise _refused(InvalidWheelFilename, filename, "its tags are not sorted", start, tags)
-    lowered = ([tag.lower() for tag in it] for it in sets)
-    return name, version, build, frozenset(itertools.starmap(Tag, itertools.product(*lowered)))
+    return name, version, build, _tags_of(*parts[-3:])
+
+
+@functools.lru_cache(maxsize=_KEPT)
+def _tags_of(*parts: str) -> FrozenSet[Tag]:
+    """Each tag that has a text of each of three parts, between whose texts are `.`."""
+    lowered = (part.lower().split(".") for part in parts)
+    return frozenset(itertools.starmap(Tag, itertools.product(*lowered)))
 
 
 def _build_of(filename: str, parts: List[str]) -> BuildTag:
@@ -186,10 +197,13 @@ def parse_sdist_filename(filename: str) -> Tuple[NormalizedName, Version]:
     ('foo-bar', <Version('1.0')>)
     """
     _want_text(filename)
-    end = next((it for it in (".tar.gz", ".zip") if filename.endswith(it)), None)
-    if end is None:
+    if filename.endswith(".tar.gz"):
+        front = filename[: -len(".tar.gz")]
+    elif filename.endswith(".zip"):
+        front = filename[: -len(".zip")]
+    else:
         raise _refused(InvalidSdistFilename, filename, "it doesn't end in `.tar.gz` or `.zip`", len(filename))
-    name, dash, version = filename[: -len(end)].rpartition("-")
+    name, dash, version = front.rpartition("-")
     if not dash:
         raise _refused(InvalidSdistFilename, filename, "a `-` and a version don't follow a name")
     return _named(InvalidSdistFilename, filename, name, version)

@@ -4,7 +4,7 @@ import sys
 import unittest
 import unittest.mock
 
-from fowlyore import Refused, Version, _native
+from fowlyore import Refused, Version, _native, utils
 from fowlyore.utils import (
     InvalidName, InvalidSdistFilename, InvalidWheelFilename, Tag, canonicalize_name, canonicalize_version,
     is_normalized_name, parse_sdist_filename, parse_wheel_filename,
@@ -153,6 +153,9 @@ class Asked(unittest.TestCase):
     def test_the_library_says_what_a_name_is(self):
         read = _native.requirement
         self.assertTrue(is_normalized_name("foo"))
+        # What was found is kept, so that it is asked once.
+        self.addCleanup(utils.normal_name.cache_clear)
+        utils.normal_name.cache_clear()
         with unittest.mock.patch.object(_native, "requirement", side_effect=lambda text: read(b"-")):
             self.assertFalse(is_normalized_name("foo"))
             with self.assertRaises(InvalidWheelFilename):
