@@ -135,7 +135,7 @@ def of_markers():
     many = [f"python_version < '3.{it % 20}' and extra == 'x{it}'" for it in range(2_000)]
     fresh = [[make(text) for text in many] for make in (fowlyore.Marker, Marker)]
     row("evaluate(..) of one of 2000, once", *(once(lambda: [it.evaluate({"extra": "x7"}) for it in those], 2_000) for those in fresh))
-    for name, call in (("&", operator.and_), ("|", operator.or_)):
+    for name, call in (("and", operator.and_), ("or", operator.or_)):
         rows(f"marker {name} marker", lambda it: call(it, it), markers, 20_000)
     rows("Marker(..) == Marker(..)", lambda make: make(MARKER) == make("os_name == 'nt'"), (fowlyore.Marker, Marker), 1_000)
     rows("hash(Marker(..))", lambda make: hash(make(MARKER)), (fowlyore.Marker, Marker), 1_000)
