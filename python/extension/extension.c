@@ -302,7 +302,7 @@ static PyType_Slot version_slots[] = {
     {0, NULL},
 };
 
-enum { KIND = Py_TPFLAGS_DEFAULT | Py_TPFLAGS_BASETYPE | Py_TPFLAGS_IMMUTABLETYPE };
+enum { KIND = Py_TPFLAGS_DEFAULT | Py_TPFLAGS_BASETYPE };
 static PyType_Spec version_spec = {"fowlyore._extension.Version", sizeof(Version), 0, KIND, version_slots};
 
 /* ---- what is done here in the common case, and otherwise by what is written in Python */

@@ -167,7 +167,14 @@ def of_the_extension(written: type, without: Tuple[str, ...] = (), **others: Any
         # (a class that has `__eq__` alone isn't hashed)
         rest["__hash__"] = base.__hash__
     rare = {f"_written_{name}": vars(written)[f"__{name}__"] for name in ("init", "eq", "and") if f"__{name}__" in vars(written)}
-    return type(written.__name__, (base,), {**rest, **rare, "__slots__": tuple(slots - kept - set(without))})
+    more = tuple(slots - kept - set(without))
+    if more:
+        return type(written.__name__, (base,), {**rest, **rare, "__slots__": more})
+    # (a class above it would take a twelfth more time to make and to drop an object)
+    for name, it in {**rest, **rare, "__qualname__": written.__qualname__}.items():
+        if name != "__slots__":
+            setattr(base, name, it)
+    return base
 
 
 def instead_of(name: str, written: Any) -> Any:
