@@ -80,8 +80,15 @@ def random_texts(count):
 
 
 def least(call, times, of_each=1):
-    """Microseconds of the processor for one of the operations of which a call has `of_each`."""
-    return min(timeit.repeat(call, number=times, repeat=RUNS, timer=time.process_time)) / times / of_each * 1e6
+    """Microseconds of the processor for one of the operations of which a call has `of_each`, without the call itself."""
+    return repeated(call, times) / of_each - (NOTHING if of_each == 1 else 0)
+
+
+def repeated(call, times):
+    return min(timeit.repeat(call, number=times, repeat=RUNS, timer=time.process_time)) / times * 1e6
+
+
+NOTHING = repeated(lambda: None, 200_000)
 
 
 def row(name, ours, theirs, times=1):
@@ -102,9 +109,8 @@ def small():
     makes, sets = (fowlyore.Version, Version), (fowlyore.SpecifierSet, SpecifierSet)
     for text in TEXTS:
         row(f"Version({text!r})", *(least(lambda: make(text), 20_000) for make in makes), 3)
-    nothing = least(lambda: None, 200_000)
     pairs = [(make("2.31.0"), make("2.32.0")) for make in makes]
-    row("one < other", *(least(lambda: one < other, 200_000) - nothing for one, other in pairs), 3)
+    row("one < other", *(least(lambda: one < other, 200_000) for one, other in pairs), 3)
     rows("str(Version(..))", lambda make: str(make("2.31.0")), makes, 20_000)
     row("Version(..).release", *(least(lambda: make("2.31.0").release, 20_000) for make in makes), 3)
     rows("Version(..).is_prerelease", lambda make: make("2.31.0").is_prerelease, makes, 20_000)

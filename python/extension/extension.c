@@ -22,7 +22,7 @@ typedef struct {
     PyObject *normal;    /* the normal text, or NULL until it is asked for; then the next two are known */
     Py_ssize_t base_len; /* of epoch and release */
     int flags;           /* which of PRE, POST and DEV it has */
-    PyObject *parts[6];  /* the parts, or NULL until they are asked for */
+    PyObject *parts[6];  /* each part, or NULL until it is asked for */
     Py_hash_t hash;      /* 0 until it is asked for */
     PyObject *weak;
     uint8_t *key;
@@ -36,7 +36,7 @@ static void version_dealloc(PyObject *self) {
     if (it->weak) PyObject_ClearWeakRefs(self);
     Py_XDECREF(it->given);
     Py_XDECREF(it->normal);
-    for (int i = 0; it->parts[0] && i < 6; i++) Py_DECREF(it->parts[i]);
+    for (int i = 0; i < 6; i++) Py_XDECREF(it->parts[i]);
     if (it->key != it->own) free(it->key);
     ((freefunc)PyType_GetSlot(type, Py_tp_free))(self);
     Py_DECREF(type);
@@ -162,23 +162,28 @@ static void store_normal(Version *it, PyObject *normal, const uint8_t *at, size_
     it->normal = normal;
 }
 
-/* Whether a version's text has only numbers without zeros before them, and so is the normal text. */
-static int is_plain_release(Text text) {
-    for (size_t i = 0; i < text.len; i++) {
-        int is_first = i == 0 || text.at[i - 1] == '.', is_last = i + 1 == text.len || text.at[i + 1] == '.';
-        if (text.at[i] != '.' && (!is_digit(text.at[i]) || (text.at[i] == '0' && is_first && !is_last))) return 0;
+/* How many numbers a version's text has, where it has nothing else and so is the normal text; otherwise 0. */
+static Py_ssize_t count_of_plain(Text text) {
+    Py_ssize_t count = 1;
+    for (size_t i = 0, first = 0; i < text.len; i++) {
+        if (text.at[i] == '.') first = i + 1, count++;
+        else if (!is_digit(text.at[i]) || (text.at[first] == '0' && i > first)) return 0;
     }
-    return 1;
+    return count;
 }
 
 /* Has the normal text read, where it isn't yet. */
 static int read_normal(Version *it) {
     Text text, answered;
     if (it->normal) return 0;
-    PyObject *bytes = NULL, *normal = NULL;
     if (!is_made(it) || text_of(it->given, &text)) return -1;
-    if (is_plain_release(answered = text)) normal = shared(it->given);
-    else if ((bytes = answer(&version_call, &text, 0, 0)) && !text_of_bytes(bytes, &answered)) {
+    if (count_of_plain(text)) {
+        it->base_len = (Py_ssize_t)text.len;
+        it->normal = shared(it->given);
+        return 0;
+    }
+    PyObject *bytes = answer(&version_call, &text, 0, 0), *normal = NULL;
+    if (bytes && !text_of_bytes(bytes, &answered)) {
         if (answered.len == text.len && !memcmp(answered.at, text.at, text.len)) normal = shared(it->given);
         else normal = PyUnicode_DecodeUTF8((const char *)answered.at, (Py_ssize_t)answered.len, NULL);
     }
@@ -195,63 +200,58 @@ static PyObject *number(const uint8_t **at) {
     return PyLong_FromUnsignedLongLong(found);
 }
 
-/* The number that follows a word, which stands here where a version has the part; None where it hasn't. */
-static PyObject *number_after(const uint8_t **at, size_t word, int has) {
-    if (has) return *at += word, number(at);
-    return shared(Py_None);
-}
-
-static PyObject *read_release(const uint8_t **at, const uint8_t *end) {
-    Py_ssize_t count = 1;
-    for (const uint8_t *it = *at; it < end; it++) count += *it == '.';
+static PyObject *read_release(const uint8_t *at, Py_ssize_t count) {
     PyObject *release = PyTuple_New(count);
-    for (Py_ssize_t i = 0; release && i < count; i++) {
-        PyObject *each = number(at);
+    for (Py_ssize_t i = 0; release && i < count; i++, at++) {
+        PyObject *each = number(&at);
         if (!each || PyTuple_SetItem(release, i, each)) Py_CLEAR(release);
-        ++*at;
     }
-    *at = end;
     return release;
 }
 
-static PyObject *read_pre(const uint8_t **at, int has) {
-    if (!has) return number_after(at, 0, 0);
-    const char *word = **at == 'a' ? "a" : **at == 'b' ? "b" : "rc";
-    *at += strlen(word);
-    PyObject *found = number(at);
+/* The number that follows a word. */
+static PyObject *number_after(const uint8_t *at, const char *word) {
+    at = (const uint8_t *)strstr((const char *)at, word) + strlen(word);
+    return number(&at);
+}
+
+static PyObject *read_pre(const uint8_t *at) {
+    const char *word = *at == 'a' ? "a" : *at == 'b' ? "b" : "rc";
+    PyObject *found = number_after(at, word);
     return found ? Py_BuildValue("sN", word, found) : NULL;
 }
 
 enum { EPOCH, RELEASE, PRE_PART, POST_PART, DEV_PART, LOCAL, PARTS };
 
-/* Reads the parts of a normal text, which ends in a 0. */
-static int read_parts(Version *it, const uint8_t *at) {
-    PyObject *all[PARTS] = {NULL}, **parts = it->parts;
-    const uint8_t *end = at + it->base_len;
-    if (memchr(at, '!', (size_t)it->base_len)) {
-        all[EPOCH] = number(&at);
-        at++;
-    } else all[EPOCH] = PyLong_FromLong(0);
-    all[RELEASE] = read_release(&at, end);
-    all[PRE_PART] = read_pre(&at, it->flags & PRE);
-    all[POST_PART] = number_after(&at, strlen(".post"), it->flags & POST);
-    all[DEV_PART] = number_after(&at, strlen(".dev"), it->flags & DEV);
-    all[LOCAL] = *at == '+' ? PyUnicode_FromString((const char *)at + 1) : shared(Py_None);
-    int made = 0, had = parts[0] != NULL;
-    while (made < PARTS && all[made]) made++;
-    for (int i = 0; i < PARTS; i++)
-        if (made == PARTS && !had) parts[i] = all[i];
-        else Py_XDECREF(all[i]);
-    return made == PARTS ? 0 : -1;
+/* A part of a normal text, which ends in a 0. */
+static PyObject *part_of(const Version *of, const uint8_t *at, intptr_t which) {
+    const uint8_t *end = at + of->base_len, *bang = memchr(at, '!', (size_t)of->base_len);
+    const char *plus = which == LOCAL ? strchr((const char *)end, '+') : NULL;
+    Py_ssize_t count = 1;
+    for (const uint8_t *it = at; which == RELEASE && it < end; it++) count += *it == '.';
+    if (which == RELEASE) return read_release(bang ? bang + 1 : at, count);
+    if (which == EPOCH) return bang ? number(&at) : PyLong_FromLong(0);
+    if (which == PRE_PART && of->flags & PRE) return read_pre(end);
+    if (which == POST_PART && of->flags & POST) return number_after(end, ".post");
+    if (which == DEV_PART && of->flags & DEV) return number_after(end, ".dev");
+    return plus ? PyUnicode_FromString(plus + 1) : shared(Py_None);
+}
+
+static PyObject *read_part(Version *it, intptr_t which) {
+    Text text;
+    Py_ssize_t count = which == RELEASE && it->given && !text_of(it->given, &text) ? count_of_plain(text) : 0;
+    if (count) return read_release(text.at, count);
+    const char *at = read_normal(it) ? NULL : PyUnicode_AsUTF8AndSize(it->normal, NULL);
+    return at ? part_of(it, (const uint8_t *)at, which) : NULL;
 }
 
 static PyObject *version_part(PyObject *self, void *which) {
-    Version *it = (Version *)self;
-    if (!it->parts[0]) {
-        const char *at = read_normal(it) ? NULL : PyUnicode_AsUTF8AndSize(it->normal, NULL);
-        if (!at || read_parts(it, (const uint8_t *)at)) return NULL;
-    }
-    return shared(it->parts[(intptr_t)which]);
+    PyObject **place = &((Version *)self)->parts[(intptr_t)which], *made;
+    if (*place) return shared(*place);
+    if (!(made = read_part((Version *)self, (intptr_t)which))) return NULL;
+    if (*place) Py_DECREF(made);
+    else *place = made;
+    return shared(*place);
 }
 
 static PyObject *version_flag(PyObject *self, void *which) {
