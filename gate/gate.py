@@ -177,9 +177,8 @@ def judged_apart(part, crates, store):
 
 
 def are_built(programs):
-    """Has programs built, which is no work where they were proved; the parts that run them then find them there."""
-    words = [sys.executable, "gate/prove.py", "--program"]
-    return all(subprocess.run([*words, it], cwd=TOP).returncode == 0 for it in programs)
+    """Has programs built, which is no work where they were proved; the parts that run programs then find them there."""
+    return subprocess.run([sys.executable, "gate/built.py", *programs], cwd=TOP).returncode == 0
 
 
 def jobs():
