@@ -44,11 +44,6 @@ class UndefinedEnvironmentName(Refused):
     """An environment lacks a value, or has an invalid version."""
 
 
-def _full_version(info: Any) -> str:
-    version = f"{info.major}.{info.minor}.{info.micro}"
-    return version if info.releaselevel == "final" else f"{version}{info.releaselevel[0]}{info.serial}"
-
-
 def default_environment() -> Dict[str, str]:
     """The values of the running interpreter for PEP 508's environment markers: a text for each of eleven
     names, as packaging's function returns them. `python_full_version` is the interpreter's own, as
@@ -57,9 +52,14 @@ def default_environment() -> Dict[str, str]:
     >>> sorted(default_environment())[:4]
     ['implementation_name', 'implementation_version', 'os_name', 'platform_machine']
     """
+    implementation = sys.implementation
+    info = implementation.version
+    version = f"{info.major}.{info.minor}.{info.micro}"
+    if info.releaselevel != "final":
+        version = f"{version}{info.releaselevel[0]}{info.serial}"
     return {
-        "implementation_name": sys.implementation.name,
-        "implementation_version": _full_version(sys.implementation.version),
+        "implementation_name": implementation.name,
+        "implementation_version": version,
         "os_name": os.name,
         "platform_machine": platform.machine(),
         "platform_release": platform.release(),
