@@ -52,8 +52,6 @@ class Part:
 
     def __init__(self, name, words, programs=(), rests_on=(), closings=1):
         self.name, self.words, self.programs, self.rests_on, self.closings = name, words, programs, rests_on, closings
-        # variables that it alone is given
-        self.environment = {}
 
     def entry(self, crates):
         """The name of its verdict in the store, or None where it is tried each time."""
@@ -123,7 +121,7 @@ def run(part, show):
     """Runs a part and shows what it says. Returns what passed and failed, and what was left out, a sentence each."""
     said = []
     how = {"stdin": subprocess.DEVNULL, "stdout": subprocess.PIPE, "stderr": subprocess.STDOUT, "errors": "replace"}
-    with subprocess.Popen(part.words, cwd=TOP, env={**os.environ, **part.environment}, **how) as ran:
+    with subprocess.Popen(part.words, cwd=TOP, **how) as ran:
         for line in ran.stdout:
             said.append(line)
             show(f"    {line}")
@@ -181,15 +179,6 @@ def are_built(programs):
     return subprocess.run([sys.executable, "gate/built.py", *programs], cwd=TOP).returncode == 0
 
 
-def jobs():
-    """How many checks run side by side, as a variable for the part that proves; nothing where that goes by memory."""
-    if os.environ.get("RT_JOBS"):
-        return {}
-    asked = [sys.executable, "gate/abreast.py"]
-    said = subprocess.run(asked, cwd=TOP, stdout=subprocess.PIPE, stderr=subprocess.DEVNULL, text=True).stdout.strip()
-    return {"RT_JOBS": said} if said.isdigit() else {}
-
-
 def sources_said():
     """The line by which `./pack release` knows that the gate ran on its sources, or why there is none."""
     try:
@@ -202,7 +191,6 @@ def gate(more, demands_all):
     began, store, crates = time.monotonic(), Store(reads=not more), Crates()
     of_sources = sources_said()
     of_texts, proofs, of_programs = parts(more)
-    proofs.environment = {} if more else jobs()
     with ThreadPoolExecutor() as pool:
         beside = [pool.submit(judged_apart, it, crates, store) for it in of_texts]
         counted = [judged(proofs, crates, store, lambda text: print(text, end="", flush=True))]

@@ -278,14 +278,15 @@ class Marker:
     if not TYPE_CHECKING:
 
         def __getattr__(self, name: str) -> Any:
-            """What of a marker that `&` or `|` made is found once it is asked for."""
+            """What of a marker that `&` or `|` made isn't known yet: its text is written, and all else is None until it is found."""
             if name == "_given":
-                self._given, self._joined = _text_of_joined(self), ()
-            elif name in ("_truth", "_key", "_text", "_is_ignored", "_found_shape"):
-                setattr(self, name, None)
-            else:
-                raise AttributeError(f"{type(self).__name__!r} object has no attribute {name!r}")
-            return getattr(self, name)
+                # (whoever finds that it is joined of nothing finds its text)
+                self._given = text = _text_of_joined(self)
+                self._joined = ()
+                return text
+            if name in ("_truth", "_key", "_text", "_is_ignored", "_found_shape"):
+                return None
+            raise AttributeError(f"{type(self).__name__!r} object has no attribute {name!r}")
 
     def __reduce__(self) -> "Tuple[type, Tuple[str]]":
         return self.__class__, (self._given,)
@@ -467,7 +468,7 @@ class Marker:
         True
         """
         values, extra = _read_environment(environment)
-        asked = self._given, values, extra
+        asked = self._given, values, extra or None
         answer = _kept_answers.get(asked) if not extra or type(extra) is str else None
         if answer is None:
             names = _native.encoded(_lines_of([extra])) if extra else b""
@@ -491,12 +492,12 @@ def _shape(marker: Marker) -> _Shape:
     left = [marker]
     while left:
         at = left[-1]
-        parts = at._joined[:2] if at._found_shape is None else ()
-        unknown = [it for it in parts if it._found_shape is None]
+        joined = at._joined if at._found_shape is None else ()
+        unknown = [it for it in joined[:2] if it._found_shape is None]
         if not unknown:
             left.pop()
-            if parts:
-                _settle(at)
+            if joined:
+                _settle(at, *joined)
             elif at._found_shape is None:
                 at._found_shape = _shape_of(at._given)
         left += unknown
@@ -504,20 +505,20 @@ def _shape(marker: Marker) -> _Shape:
     return marker._found_shape
 
 
-def _settle(marker: Marker) -> None:
-    """Finds the shape of a marker that was joined of two whose shapes are known."""
-    left, right, is_and = marker._joined  # type: ignore[misc]
+def _settle(marker: Marker, left: Marker, right: Marker, is_and: bool) -> None:
+    """Finds the shape of a marker that was joined of two whose shapes are known. Another thread may do so too."""
     if left._may_be_ignored() or right._may_be_ignored():
         alone = right if left._may_be_ignored() == is_and else left
-        marker._given, marker._joined, marker._is_ignored = alone._given, (), alone._may_be_ignored()
-        marker._found_shape = alone._found_shape
+        marker._given, marker._is_ignored = alone._given, alone._may_be_ignored()
+        marker._joined, marker._found_shape = (), alone._found_shape
         return
     marker._is_ignored = False
     if not is_and:
         marker._found_shape = _Shape(True, max(_shape(left).depth, _shape(right).depth))
         return
     left, right = _as_term(left), _as_term(right)
-    marker._joined = left, right, True
+    if marker._joined:
+        marker._joined = left, right, True
     marker._found_shape = _Shape(False, max(it.depth + it.has_or for it in (_shape(left), _shape(right))))
 
 
@@ -543,14 +544,13 @@ def _text_of_joined(marker: Marker) -> str:
     left: List[Union[str, Marker]] = [marker]
     while left:
         it = left.pop()
-        if isinstance(it, str):
-            pieces.append(it)
-        elif not it._joined:
-            pieces.append(it._given)
-        elif it._joined[2]:
-            left += [*_pushed(it._joined[1]), " and ", *_pushed(it._joined[0])]
+        joined = () if isinstance(it, str) else it._joined
+        if not joined:
+            pieces.append(it if isinstance(it, str) else it._given)
+        elif joined[2]:
+            left += [*_pushed(joined[1]), " and ", *_pushed(joined[0])]
         else:
-            left += [it._joined[1], " or ", it._joined[0]]
+            left += [joined[1], " or ", joined[0]]
     text = "".join(pieces)
     return Marker(text)._given if is_too_deep else text
 

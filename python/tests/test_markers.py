@@ -1,11 +1,13 @@
 """Markers, by PEP 508."""
 
+import concurrent.futures
 import copy
 import functools
 import itertools
 import operator
 import os
 import pickle
+import sys
 import unittest
 import weakref
 from unittest import mock
@@ -40,6 +42,7 @@ class Markers(unittest.TestCase):
             ("extra == 'Test_It'", {"extra": "test.it"}, True),
             ("extra == 'test'", {"extra": ""}, False),
             ("extra == 'test'", {"extra": None}, False),
+            ("extra == 'test'", {"extra": []}, False),
             ("extra != 'test'", {}, True),
         ]
         for text, environment, wanted in rows:
@@ -179,6 +182,18 @@ class Algebra(unittest.TestCase):
         marker = functools.reduce(lambda whole, it: whole | (one if it % 2 else other), range(100_000), one)
         self.assertEqual(len(marker._given), 100_001 * len("os_name == 'a'") + 100_000 * len(" or ") - 50_000 * 2)
         self.assertTrue(marker.evaluate({"os_name": "a"}))
+
+    def test_threads_that_ask_for_one_text(self):
+        """What `&` and `|` made is written by whichever thread asks first, or by several at once."""
+        one, other, always = Marker("os_name == 'a'"), Marker("extra == 'b' or os_name == 'c'"), Marker(ALWAYS)
+        interval = sys.getswitchinterval()
+        self.addCleanup(sys.setswitchinterval, interval)
+        sys.setswitchinterval(1e-6)
+        for _ in range(200):
+            made = functools.reduce(lambda whole, it: (whole | it) & other | always & one, [one] * 8, other)
+            with concurrent.futures.ThreadPoolExecutor(4) as pool:
+                found = set(pool.map(lambda marker: (marker._given, hash(marker), marker.evaluate({"os_name": "c"})), [made] * 8))
+            self.assertEqual(found, {(made._given, hash(Marker(made._given)), True)})
 
     def test_chains_of_both(self):
         """Where brackets would nest too deep another text stands in them, if there is one."""
