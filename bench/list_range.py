@@ -3,8 +3,7 @@
 
     list_range.py [PROGRAM] [--sizes N,..] [--runs N] [--most SECONDS] [--write]
 
-PROGRAM is crates/pep440_vectors/out/pep440_vectors where none is named (`./build pep440_vectors`
-makes it). It is asked of how many intervals the list's range is, which has to be one more than its
+PROGRAM is crates/questions/out/questions where none is named (`./build questions` makes it). It is asked of how many intervals the list's range is, which has to be one more than its
 members. Times are the least processor seconds of several runs of the whole process, reading the list's text
 included. The exit status is 1 where an answer is wrong, or where a list of at most 40,000 members took longer
 than SECONDS, 1 by default. With `--write` the times go to bench/figures.json, if it is 0.
@@ -22,10 +21,10 @@ def prepare(folder, size):
     members = [f"!={number}.0" for number in range(size)]
     random.Random(7).shuffle(members)
     question = json.dumps(["intervals", ", ".join(members)])
-    with open(os.path.join(folder, "vectors.jsonl"), "w", encoding="ascii") as file:
+    with open(os.path.join(folder, "pep440_vectors.jsonl"), "w", encoding="ascii") as file:
         file.write(question)
     return [], f"{question} {size + 1}\n"
 
 
-words = figures.read_words(words_of(__doc__, "pep440_vectors", [10000, 20000, 40000, 80000]))
+words = figures.read_words(words_of(__doc__, "questions", [10000, 20000, 40000, 80000]))
 measure(words, prepare, 40000, "list_range")

@@ -3,11 +3,10 @@
 
     markers.py [PROGRAM] [--native PATH] [--runs N] [--lines N] [--write [--native-is TEXT]]
 
-PROGRAM is crates/pep508_marker_vectors/out/pep508_marker_vectors where none is named
-(`./build pep508_marker_vectors` makes it). A native program is called as `PATH marker --json`, with a marker
+PROGRAM is crates/questions/out/questions where none is named (`./build questions` makes it). A native program is called as `PATH marker --json`, with a marker
 as a JSON text a line on standard input. Chains are `os_name == 'x0' or os_name == 'x1' ..` and the same of extras, and
-`extra == 'x0' and extra == 'x1' ..`; the many are drawn from the real markers among the questions of
-crates/pep508_marker_vectors. What is printed are those, clauses of ten comparisons, which differ in the first,
+`extra == 'x0' and extra == 'x1' ..`; the many are drawn from the real markers among the questions
+on markers. What is printed are those, clauses of ten comparisons, which differ in the first,
 in the last or in all, 1,024 clauses of the same eleven extras, an `or` of some flags, and one of 10,000 versions;
 reading these alone is timed beside. There the native program is called by `dnf` and `tree`. Processor seconds and peak
 memory are those of the whole process, the least of several runs. The exit status is 1 where an answer is wrong, where
@@ -32,8 +31,9 @@ sys.path.insert(0, HERE)
 import figures  # noqa: E402
 from run import peak  # noqa: E402
 
-CRATE = os.path.join(HERE, "..", "crates", "pep508_marker_vectors")
-PROGRAM = os.path.join(CRATE, "out", "pep508_marker_vectors")
+CRATE = os.path.join(HERE, "..", "crates", "questions")
+PROGRAM = os.path.join(CRATE, "out", "questions")
+ASKED = "pep508_marker_vectors.jsonl"
 SHORT, LEAST, MOST = 2000, 20000, 100000
 LIMITS = {"os_name": 7, "extra": 9}
 LONG, LONGEST_SECONDS = 300000, 3
@@ -65,7 +65,7 @@ def chain(key, word, size):
 def real_markers(number):
     """So many markers of real packages, drawn with repetition."""
     known = []
-    with open(os.path.join(CRATE, "data", "vectors.jsonl"), encoding="utf-8") as file:
+    with open(os.path.join(CRATE, "data", ASKED), encoding="utf-8") as file:
         for line in file:
             question = json.loads(line)
             if question[0] == "same" and "\n" not in question[1]:
@@ -116,7 +116,7 @@ def measured(words, folder, runs, is_answer):
 
 
 def ours(program, folder, question, markers, runs):
-    with open(os.path.join(folder, "vectors.jsonl"), "w", encoding="utf-8") as file:
+    with open(os.path.join(folder, ASKED), "w", encoding="utf-8") as file:
         file.writelines(json.dumps([question, marker], ensure_ascii=False) + "\n" for marker in markers)
     for name in ("environments.txt", "input"):
         with open(os.path.join(folder, name), "w", encoding="utf-8"):

@@ -3,8 +3,7 @@
 
     texts.py [PROGRAM] [--markers N] [--seed N] [--native PATH] [--environments N]
 
-PROGRAM is crates/pep508_marker_vectors/out/pep508_marker_vectors where none is named
-(`./build pep508_marker_vectors` makes it). Each marker that is read is printed, and its print is read again: both have
+PROGRAM is crates/questions/out/questions where none is named (`./build questions` makes it). Each marker that is read is printed, and its print is read again: both have
 to be one tree, but where a print can't say what the tree asks: a marker that never holds, a deprecated key, a single
 quote within a text, a version of more than release numbers.
 
@@ -26,7 +25,7 @@ import sys
 import tempfile
 
 HERE = os.path.dirname(os.path.abspath(__file__))
-PROGRAM = os.path.join(HERE, "..", "crates", "pep508_marker_vectors", "out", "pep508_marker_vectors")
+PROGRAM = os.path.join(HERE, "..", "crates", "questions", "out", "questions")
 
 VERSION_KEYS = ["implementation_version", "python_full_version", "python_version"]
 TEXT_KEYS = ["implementation_name", "os_name", "platform_machine", "platform_python_implementation", "platform_release",
@@ -115,7 +114,7 @@ class Ours:
 
     def answers(self, questions):
         lines = [json.dumps(it, ensure_ascii=False) for it in questions]
-        with open(os.path.join(self.folder, "vectors.jsonl"), "w", encoding="utf-8") as file:
+        with open(os.path.join(self.folder, "pep508_marker_vectors.jsonl"), "w", encoding="utf-8") as file:
             file.writelines(line + "\n" for line in lines)
         said = run([self.program], self.folder).split("\n")[:-1]
         if len(said) != len(lines) or not all(map(str.startswith, said, lines)):

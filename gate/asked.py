@@ -12,8 +12,8 @@ which specifiers are turned into. None is
 - a law, a function that gives nothing back and changes nothing: its contract is all that it says;
 - what operators and `format!` call: equality, order, hashes and prints.
 
-A call is asked where its name stands as a call, `.name(`, `Owner::name` or `name(`, in a program of questions,
-in a crate of tests, in a `#[test]` function, or in one of the crates of RUN, which the stored runs run. A call
+A call is asked where its name stands as a call, `.name(`, `Owner::name` or `name(`, in a crate that answers
+questions, in a crate of tests, in a `#[test]` function, or in one of the crates of RUN, which the stored runs run. A call
 `.name(` counts for a type that its file names, and for the only type with such a function where the file imports
 something of that type's crate. The functions of a trait that such a text has an impl of are asked, since the library
 calls that. Comments, texts, items for proofs and clauses don't count.
@@ -35,7 +35,7 @@ FACES = ("pep440_rs", "pep508_rs", "reqtable", "reqs", "reqs_io")
 # Of version_ranges the sets are public; their boundaries are lent to the crates of ranges and trees.
 SETS = ("Ranges", "RangeValue", "Iter")
 # Run by tests/cli.sh on the stored runs.
-RUN = ("reqs_ends", "reqs_json", "reqs_lists", "reqs_pieces", "reqs_rows", "reqs_answers", "reqs_cli")
+RUN = ("reqs_ends", "reqs_json", "reqs_lists", "reqs_pieces", "reqs_rows", "reqs_answers", "reqs_command", "reqs_cli")
 # Calls that need no question, and why.
 LENT = "lent to the crates of trees, and public only since its type is"
 UNASKED = {
@@ -296,12 +296,12 @@ class Asking:
 
 
 class Asked:
-    """The calls that stand in the programs of questions, in tests and in what the stored runs run."""
+    """The calls that stand in what answers questions, in tests and in what the stored runs run."""
 
     def __init__(self, crates, libraries):
         self.texts, self.owners = [], {}
         for name, library in libraries.items():
-            is_whole = name in RUN or crates[name].is_program() or name.endswith("_tests")
+            is_whole = name in (*RUN, *floors.refused.VECTORS) or crates[name].is_program() or name.endswith("_tests")
             for text in library.files.values():
                 asking = text if is_whole else "\n".join(tests_in(text))
                 self.texts += [Asking(USE.sub("use \\1;", asking))] if asking else []
@@ -337,7 +337,7 @@ def main():
     faults += [f"{label} stands in UNASKED and is no public call" for label in left]
     if not calls:
         faults.append("no public call was found")
-    counted, below = floors.judged(crates)
+    counted, below = floors.judged()
     passed, faults = passed + counted, faults + below
     for fault in faults:
         print(f"FAILED: {fault}")

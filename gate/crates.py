@@ -17,7 +17,7 @@ class Crate:
 
     def __init__(self, name, said, words):
         self.name, self.said, self.words = name, said, words
-        self.uses, self.of_kit = [], []
+        self.uses, self.of_kit, self.own_lines = [], [], None
         self.folder = os.path.join(TOP, "crates", name)
 
     def is_program(self):
@@ -43,13 +43,15 @@ class Crate:
             total.update(repr((os.path.relpath(path, self.folder), sum_of_file(path))).encode())
         return total.hexdigest()
 
+    def lines(self):
+        """How many lines the crate's own texts have."""
+        if self.own_lines is None:
+            self.own_lines = sum(lines_of_file(it) for it in self.text_files())
+        return self.own_lines
+
     def memory(self):
         """What a check of the crate takes at most, in bytes: it grows with the crate's lines."""
-        lines = 0
-        for path in self.text_files():
-            with open(path, "rb") as file:
-                lines += file.read().count(b"\n")
-        return 1_500_000_000 + 700_000 * lines
+        return 1_500_000_000 + 700_000 * self.lines()
 
 
 class Crates(dict):
@@ -88,6 +90,11 @@ class Crates(dict):
             said = repr((*self.around(), self[name].own_sum(), rests_on))
             self.sum_of[name] = hashlib.sha256(said.encode()).hexdigest()
         return self.sum_of[name]
+
+
+def lines_of_file(path):
+    with open(path, "rb") as file:
+        return file.read().count(b"\n")
 
 
 def sum_of_file(path):

@@ -85,7 +85,7 @@ FAULTS = [
           "crates/pep440_operator/proofs/Operators.antt", "", "-- nothing is proved here\n"),
     Fault("a line of crates.txt", "underline", PROVE, "crates.txt", "underline: unicode_width", "underline:"),
     Fault("a test that fails", "underline", PROVE, f"{LOW}/src/lib.rt", LAST_USE, LAST_USE + FAILING_TEST),
-    Fault("an answer to a question", "pep440_vectors", PROVE, "crates/pep440_vectors/stdout", "", "none\n"),
+    Fault("an answer to a question", "questions", PROVE, "crates/questions/stdout", "", "none\n"),
     Fault("an edit that is right", None, [*WRONG, "--gate", "underline"],
           "tests/wrong/underline/marks_are_the_blanks.edit", "",
           "file: src/lib.rt\nold: c.width().unwrap_or(0)\nnew: match c.width() { Some(it) => it, None => 0 }\n"),

@@ -1,8 +1,8 @@
 """Least counts, under which the questions, the stored runs and the commands with memory refused may not fall.
 
-tests/least.txt has them; whoever adds some raises its count. A program of questions without one fails. So does
-a question whose answer is `no question`, a kind of question that the head of the program's `main.rt` doesn't list,
-and a kind there that the program isn't asked.
+tests/least.txt has them; whoever adds some raises its count. A crate that answers questions without one fails. So
+does a question whose answer is `no question`, a kind of question that the head of the crate's `lib.rt` doesn't list,
+and a kind there that the crate isn't asked.
 """
 
 import json
@@ -26,29 +26,29 @@ def read(*path):
         return file.read()
 
 
-def kinds_told(program):
-    """The kinds of questions that the head of a program lists: what stands before the colon of each item."""
-    head = re.match(r"(?:#!.*\n)*((?://!.*\n)+)", read("crates", program, "src", "main.rt"))[1].replace("\n//!   ", " ")
+def kinds_told(crate):
+    """The kinds of questions that the head of a crate lists: what stands before the colon of each item."""
+    head = re.match(r"(?:#!.*\n)*((?://!.*\n)+)", read("crates", crate, "src", "lib.rt"))[1].replace("\n//!   ", " ")
     items = re.split(r"^//! - ", head, flags=re.M)[1:]
     return {kind for it in items for kind in re.findall(r'`\["([^"]+)"', it.partition("]`: ")[0])}
 
 
-def faults_of(name, told):
-    """What is wrong with the questions of a program."""
-    asked = {json.loads(question)[0] for question, _ in refused.questions(name)}
-    for question, answer in refused.questions(name):
+def faults_of(name, questions, told):
+    """What is wrong with the questions of a crate."""
+    asked = {json.loads(question)[0] for question, _ in questions}
+    for question, answer in questions:
         if answer.rstrip() == question + b" no question":
             yield f"{name} doesn't know the question {question.decode()}"
     for kind in sorted(asked - told):
-        yield f"crates/{name}/src/main.rt doesn't list the questions `{kind}`"
+        yield f"crates/{name}/src/lib.rt doesn't list the questions `{kind}`"
     for kind in sorted(told - asked):
-        yield f"crates/{name}/src/main.rt lists questions `{kind}` that {name} isn't asked"
+        yield f"crates/{name}/src/lib.rt lists questions `{kind}` that {name} isn't asked"
 
 
-def counts(programs):
+def counts(questions):
     """What is counted: a name as in least.txt, and how many there are."""
-    for name in programs:
-        yield f"questions {name}", len(list(refused.questions(name)))
+    for name in questions:
+        yield f"questions {name}", len(questions[name])
     stored = json.loads(read("tests", "runs.json"))
     yield "runs", sum(len(stored[it]) for it in ("runs", "worked", "matrix", "lists"))
     yield "objects", objects.count()
@@ -70,12 +70,11 @@ def least_counts():
     return least
 
 
-def judged(crates):
-    """How many counts and programs pass, and what is wrong with the others."""
-    vectors = os.path.join("data", "vectors.jsonl")
-    programs = [it for it in crates if os.path.isfile(os.path.join(crates[it].folder, vectors))]
+def judged():
+    """How many counts and crates pass, and what is wrong with the others."""
+    questions = refused.questions()
     passed, faults, least = 0, [], least_counts()
-    for name, count in counts(programs):
+    for name, count in counts(questions):
         wanted = least.pop(name, None)
         if wanted is None:
             faults.append(f"tests/least.txt has no line `{name} {count}`")
@@ -83,8 +82,8 @@ def judged(crates):
             faults.append(f"{name}: {count}, where tests/least.txt wants at least {wanted}")
         else:
             passed += 1
-    for name in programs:
-        found = list(faults_of(name, kinds_told(name)))
+    for name in questions:
+        found = list(faults_of(name, questions[name], kinds_told(name)))
         faults += found
         passed += not found
     return passed, faults + [f"tests/least.txt: nothing is counted as `{name}`" for name in least]

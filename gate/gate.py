@@ -38,7 +38,7 @@ LEFT_OUT = re.compile(r"^(?:[a-z]+\.sh: left out|not tried): (.*)", re.M)
 NOTHING, RELEASE = "--from-nothing", "--release"
 # What is run where one part is asked for.
 SCRIPTS = {"--wrong": (["wrong.py"], ["mutants.py", "--again"]), "--mutants": (["mutants.py"],), "--faults": (["faults.py"],)}
-QUESTIONS = ("pep440_vectors", "pep508_vectors", "pep508_marker_vectors")
+QUESTIONS = "questions"
 # What of tests/ the parts read that run programs.
 OF_REQS = ("alike.py", "cli.sh", "counted.sh", "documented.py", "drawn.py", "ends.c", "ends.py", "help.txt", "install.sh", "numerals.py",
            "objects.py", "pages", "pairs.py", "refuse.c", "refused.py", "refused.sh", "rows.py", "runs.json", "runs.py", "sizes.py",
@@ -70,7 +70,7 @@ def parts(more):
     python = [sys.executable]
     of_reqs = ("examples", "reqs", "build", "install", "share", "try", *(f"tests/{it}" for it in OF_REQS))
     # (that its answers are right the command line says)
-    of_try = ("build", "crates.txt", "crates/reqs_cli/src", "examples/spelling", "tests/help.txt", "tests/try.sh", "try")
+    of_try = ("build", "crates.txt", "crates/reqs_cli/src", "crates/reqs_command/src", "examples/spelling", "tests/help.txt", "tests/try.sh", "try")
     of_c = ("build", "docs/C.md", "gate/prove.py", "include", "tools")
     licences = ("LICENSE-APACHE", "LICENSE-BSD")
     of_pack = (*licences, "build", "examples", "gate/prove.py", "include", "pack", "tools")
@@ -80,7 +80,7 @@ def parts(more):
     of_deb = (*of_pack, "docs/C.md", "docs/COMMANDS.md", "install", "rust/fowlyore/README.md", "share", "tests/counted.sh",
               "tests/deb.sh")
     of_index = ("bench/workload.py", "build", "gate/prove.py", "examples/index", "python", "tests/index.py", "tools")
-    asked = [f"crates/{it}/{of}" for it in QUESTIONS for of in ("data", "stdout")]
+    asked = [f"crates/{QUESTIONS}/{it}" for it in ("data", "stdout")]
     return [
         Part("layout", [*python, "gate/layout.py"]),
         Part("wrong edits fit", [*python, "gate/wrong.py", "--texts"]),
@@ -100,7 +100,7 @@ def parts(more):
         Part("lists compared", [*python, "tests/pairs.py", "500"], ["reqs_cli"], of_reqs),
         Part("a first answer", ["bash", "tests/try.sh"], [], of_try),
         Part("installing", ["bash", "tests/install.sh"], ["reqs_cli"], of_reqs),
-        Part("refused memory", ["bash", "tests/refused.sh"], ["reqs_cli", *QUESTIONS], [*of_reqs, *asked]),
+        Part("refused memory", ["bash", "tests/refused.sh"], ["reqs_cli", QUESTIONS], [*of_reqs, *asked]),
         Part("library for C", ["bash", "tests/c.sh"], ["reqs_c"], [*of_c, "examples", *(f"tests/{it}" for it in OF_C)]),
         Part("Python package", ["bash", "tests/python.sh"], ["reqs_c"], of_python),
         Part("lists in pieces", [*python, "tests/index.py"], ["reqs_c", "reqs_cli"], of_index),
@@ -195,7 +195,7 @@ def gate(more, demands_all):
         beside = [pool.submit(judged_apart, it, crates, store) for it in of_texts]
         counted = [judged(proofs, crates, store, lambda text: print(text, end="", flush=True))]
         counted += [it.result() for it in beside]
-        if are_built(["reqs_cli", "reqs_c", *QUESTIONS]):
+        if are_built(["reqs_cli", "reqs_c", QUESTIONS]):
             # (found once, before all ask for it)
             verdicts.versions()
             counted += pool.map(lambda part: judged_apart(part, crates, store), of_programs)

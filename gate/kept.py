@@ -35,8 +35,9 @@ FITS = {NOTHING: {NOTHING}, WHOLE: {NOTHING, WHOLE}}
 # The word of a verdict that rests on kept work. All other words are held to `rt`'s rules as they are.
 TRUSTED = re.compile(r" incremental=trusted\n\Z")
 CHECKED = re.compile(r"^crate (\w+): modules loaded=\d+ checked=(\d+)$", re.M)
-# What a line takes by one job where kept work is there.
-SECONDS_A_LINE = 0.03
+# What a line takes by one job where kept work is there, what a line of the crates below takes, whose libraries are loaded
+# whole, and what loading takes of the memory of a check that proves.
+SECONDS_A_LINE, SECONDS_A_LINE_BELOW, LOADED = 0.03, 0.0008, 0.75
 
 
 class Verdict:
@@ -102,21 +103,32 @@ class KeptProver(Prover):
         own = keys.summed((seen.code_sum(self.crates[name]), self.crates.around(), keys.scripts_sum(OF_SEEN)))
         return f"{own}.{self.kind(name, tests)}.{WORK}"
 
+    def only_loads(self, name, tests):
+        """Whether a check does little but load: over kept work, and a program, which is a call of a library."""
+        return self.kind(name, tests) == PROGRAM or self.store.has(self.work_entry(name, tests), ())
+
+    def loading(self, name):
+        return SECONDS_A_LINE_BELOW * sum(it.lines() for it in self.crates.below(name))
+
     def seconds(self, name, tests, lines):
-        if self.store.has(self.work_entry(name, tests), ()):
-            return SECONDS + SECONDS_A_LINE * lines
-        return super().seconds(name, tests, lines)
+        if self.only_loads(name, tests):
+            return SECONDS + self.loading(name) + SECONDS_A_LINE * lines
+        return self.loading(name) + super().seconds(name, tests, lines)
+
+    def memory(self, name, tests, reckoned):
+        return LOADED * reckoned if self.only_loads(name, tests) else reckoned
 
     def most_jobs(self, name, tests):
-        # (most of it is loading then, which is done by one)
-        return 2 if self.store.has(self.work_entry(name, tests), ()) else super().most_jobs(name, tests)
+        # (loading is done by one)
+        return 1 if self.only_loads(name, tests) else super().most_jobs(name, tests)
 
     def prove(self, crate, flags, tests):
         form = self.form(crate.name, tests)
         if not {self.form(it) for it in self.crates[crate.name].uses} <= FITS[form]:
             print(f"gate: {crate.name} can't be proved as {form} over the libraries that are there", file=crate.out)
             return 1
-        if form != WHOLE:
+        if form != WHOLE or self.kind(crate.name, tests) == PROGRAM:
+            # (a program has few texts of its own, and both compilers take what one check without kept work proved)
             return super().prove(crate, flags, tests)
         entry = self.work_entry(crate.name, tests)
         room = tempfile.mkdtemp(prefix="reqs-kept-")
@@ -154,7 +166,7 @@ class KeptProver(Prover):
         kind = self.kind(crate.name, tests)
         words = [*crate.words(flags, tests=tests, keeps=False), "--incremental", work]
         if kind != LIBRARY:
-            return linked.build(crate, kind, words, work)
+            return linked.build(crate, kind, words)
         shutil.rmtree(os.path.dirname(crate.rlib), ignore_errors=True)
         os.makedirs(os.path.dirname(crate.rlib))
         return crate.prove(["build", *words, "-o", crate.rlib])

@@ -115,13 +115,21 @@ class Prover:
             name, tests = (key, False) if isinstance(key, str) else (key[0], key[1] == TESTS)
             is_kept = self.store.has(self.entry(name, tests), ())
             takes = 1 if is_kept or not lines else self.seconds(name, tests, lines)
-            made[key] = Task(waits, takes, memory, call, self.most_jobs(name, tests))
+            made[key] = Task(waits, takes, self.memory(name, tests, memory), call, self.most_jobs(name, tests))
         made.update(self.more_tasks())
         return self.run(made)
 
     def seconds(self, name, tests, lines):
         """What the proof of a crate of so many lines, or of its tests, takes by one job, about."""
         return SECONDS + SECONDS_A_LINE[self.kind(name, tests)] * lines
+
+    def loading(self, _name):
+        """What a check of a crate takes to load those below it, in seconds: statements alone are loaded soon."""
+        return 0
+
+    def memory(self, _name, _tests, reckoned):
+        """What a check of a crate takes, in bytes, by what `rt` reckons."""
+        return reckoned
 
     def most_jobs(self, _name, _tests):
         """How many jobs are of use to a proof."""

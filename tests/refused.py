@@ -12,8 +12,7 @@ the refusal. The last run gives the answer with ample memory.
 
 The commands are `reqs check` on each example and on lists that are refused, `reqs matrix`, `reqs same`, `reqs conflicts`
 and `reqs normal`, each of these asked for an object too, those of rows.py, the program's help, and the questions of
-crates/pep440_vectors and crates/pep508_vectors and every eighth of crates/pep508_marker_vectors, one a run; each stands with
-the answer that it has with ample memory. To questions of KEPT the program goes on: it makes a call that was refused memory again, and answers by it
+crates/questions, of those on markers every eighth, one a run; each stands with the answer that it has with ample memory. To questions of KEPT the program goes on: it makes a call that was refused memory again, and answers by it
 and by the trees or the table that it made before. There some run has to give the whole answer after a refusal. tests/least.txt says how
 many commands and questions there are at least. The last line is `refused: N passed, M failed`, a command or a kind of
 question each.
@@ -32,7 +31,9 @@ from rows import FORMATS, ROWS
 
 TOP = os.path.dirname(os.path.dirname(os.path.abspath(__file__)))
 REQS = os.path.join(TOP, "crates", "reqs_cli", "out", "reqs_cli")
-# Of the questions of each program every so many-th is asked: those on markers are many, and much alike.
+QUESTIONS = os.path.join(TOP, "crates", "questions")
+PROGRAM = os.path.join(QUESTIONS, "out", "questions")
+# Of the questions of each crate every so many-th is asked: those on markers are many, and much alike.
 VECTORS = {"pep440_vectors": 1, "pep508_vectors": 1, "pep508_marker_vectors": 8}
 # Questions that are always asked, of a call that is made again where it was refused memory.
 KEPT = ("keeps", "keeps table")
@@ -45,12 +46,8 @@ MOST_REQUESTS = 100_000
 INPUT_REFUSED = 2
 
 
-def program(name):
-    return os.path.join(TOP, "crates", name, "out", name)
-
-
 # How each program ends where memory is refused.
-WANT = {REQS: (3, b"reqs: out of memory\n"), **{program(it): (1, b"Error: Kind(OutOfMemory)\n") for it in VECTORS}}
+WANT = {REQS: (3, b"reqs: out of memory\n"), PROGRAM: (1, b"Error: Kind(OutOfMemory)\n")}
 
 
 def fault_line(text):
@@ -252,28 +249,29 @@ def commands_of_rows(room):
 def tasks(library, room):
     for name, words, folder, wanted in commands(room):
         yield library, name, [REQS, *words], folder, wanted, None
+    of_all = questions()
     for name, step in VECTORS.items():
-        for number, (question, answer) in enumerate(questions(name)):
+        for number, (question, answer) in enumerate(of_all[name]):
             asked = json.loads(question)[0]
             if number % step == 0 or asked in KEPT:
-                yield library, kind_of(asked), [program(name)], name, (0, answer, b""), question
+                yield library, kind_of(asked), [PROGRAM], name, (0, answer, b""), question
 
 
 def kind_of(asked):
     return f"questions of {asked}:"
 
 
-def questions(name):
-    """The questions of a program, each with what is printed for it: the question, and the answer's lines."""
-    data = os.path.join(TOP, "crates", name)
-    asked = read(os.path.join(data, "data", "vectors.jsonl")).splitlines()
-    left = read(os.path.join(data, "stdout"))
-    for question, following in zip(asked, [*asked[1:], None]):
-        end = len(left) if following is None else left.find(b"\n" + following + b" ") + 1
-        if not left.startswith(question + b" ") or not end:
-            sys.exit(f"refused.py: crates/{name}/stdout has not the answers to its questions in turn")
-        yield question, left[:end]
-        left = left[end:]
+def questions():
+    """By crate its questions, each with what is printed for it: the question, and the answer's lines."""
+    asked = [(name, it) for name in VECTORS for it in read(os.path.join(QUESTIONS, "data", f"{name}.jsonl")).splitlines()]
+    left, at, found = read(os.path.join(QUESTIONS, "stdout")), 0, {it: [] for it in VECTORS}
+    for (name, question), following in zip(asked, [*asked[1:], None]):
+        end = len(left) if following is None else left.find(b"\n" + following[1] + b" ", at) + 1
+        if not left.startswith(question + b" ", at) or not end:
+            sys.exit("refused.py: crates/questions/stdout has not the answers to the questions in turn")
+        found[name].append((question, left[at:end]))
+        at = end
+    return found
 
 
 def work(task):
@@ -281,8 +279,8 @@ def work(task):
     if question is None:
         return try_command(library, kind, words, folder, wanted)
     with tempfile.TemporaryDirectory(prefix="refused-") as room:
-        shutil.copytree(os.path.join(TOP, "crates", folder, "data"), room, dirs_exist_ok=True)
-        with open(os.path.join(room, "vectors.jsonl"), "wb") as file:
+        shutil.copy(os.path.join(QUESTIONS, "data", "environments.txt"), room)
+        with open(os.path.join(room, f"{folder}.jsonl"), "wb") as file:
             file.write(question + b"\n")
         tally = try_command(library, kind, words, room, wanted)
     tally.faults = [f"{it} ({question.decode()})" for it in tally.faults]

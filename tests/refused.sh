@@ -12,7 +12,7 @@ fail() {
 }
 
 command -v cc >/dev/null || fail "there is no C compiler cc on the PATH, which compiles what refuses memory, tests/refuse.c"
-for program in reqs_cli pep440_vectors pep508_vectors pep508_marker_vectors; do
+for program in reqs_cli questions; do
     "$top/build" "$program" || fail "$program was not built"
 done
 work=$(mktemp -d) || exit 1

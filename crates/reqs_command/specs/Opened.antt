@@ -1,0 +1,107 @@
+-- The opened inputs and the result of the command on them, whatever opens them.
+use Rattle.std.specs.Prelude.{◌≡◌, ◌⊎◌, ℕ, List, [], ◌∷◌, map, Option, Result, Ok, Err}
+use Rattle.std.specs.List.{AllZip}
+use Rattle.pep508_url.specs.Vars.{Variables}
+use Rattle.reqs_json.specs.declared.format.Format.{Format}
+use Rattle.reqs_ends.specs.declared.fault.Input.{Input}
+use Rattle.reqs_ends.specs.declared.fault.Input.TheVariants.{First, Second, Third}
+use Rattle.reqs_ends.specs.declared.fault.RunFault.{RunFault}
+use Rattle.reqs_ends.specs.declared.fault.RunFault.TheVariants.{Memory}
+use Rattle.reqs_ends.specs.declared.fault.Status.{Status}
+use Rattle.reqs_ends.specs.Ends.{Answering, Refusing, Runs}
+use Rattle.reqs_answers.specs.Check.{ChecksAs, CheckRefuses}
+use Rattle.reqs_answers.specs.Matrix.{MatrixAnswersAs, MatrixRefuses}
+use Rattle.reqs_lists.specs.Comparison.{SameAnswersAs, SameRefuses}
+use Rattle.reqs_lists.specs.Contradictions.{ConflictsAnswerAs, ConflictsRefuse}
+use Rattle.reqs_lists.specs.Normal.{NormalAnswersAs, NormalRefuses}
+use Rattle.reqs_command.specs.declared.asked.Asked.{Asked}
+use Rattle.reqs_command.specs.declared.asked.Asked.TheVariants.{Check, Matrix, Same, Conflicts, Normal}
+use Rattle.reqs_command.specs.declared.opened.Opened.{Opened}
+use Rattle.reqs_command.specs.declared.opened.Opened.TheVariants as opened
+
+-- ---- a command by the bytes of its inputs
+
+-- what a command may answer in a format
+abbrev pub answering : Asked → Format → Variables → List (List ℕ) → Answering
+answering Check format vars extras = ChecksAs format vars extras
+answering (Matrix limit) format vars extras = MatrixAnswersAs format limit vars extras
+answering (Same limit) format vars extras = SameAnswersAs format limit vars
+answering (Conflicts limit) format vars extras = ConflictsAnswerAs format limit vars
+answering Normal format vars extras = NormalAnswersAs format vars
+
+-- the faults for which a command may refuse its inputs
+abbrev pub refusing : Asked → Variables → List (List ℕ) → Refusing
+refusing Check vars extras = CheckRefuses vars extras
+refusing (Matrix limit) vars extras = MatrixRefuses limit vars extras
+refusing (Same limit) vars extras = SameRefuses limit vars
+refusing (Conflicts limit) vars extras = ConflictsRefuse limit vars
+refusing Normal vars extras = NormalRefuses vars
+
+-- the command ends with this result, for the bytes that its readers have
+abbrev pub RunsAsked : {W : Type 0} → Asked → Format → Variables → List (List ℕ) → List (Option (List ℕ))
+    → (W → Option (List ℕ)) → W → W → Result Status RunFault → Type 0
+RunsAsked asked format vars extras told contents old new result =
+    Runs (answering asked format vars extras) (refusing asked vars extras) told contents old new result
+
+-- ---- opened inputs
+
+-- the inputs of a command, in the order of the command line
+abbrev pub inputs_of : Asked → List Input
+inputs_of Check = First ∷ Second ∷ Third ∷ []
+inputs_of (Matrix limit) = First ∷ Second ∷ Third ∷ []
+inputs_of (Same limit) = First ∷ Second ∷ []
+inputs_of (Conflicts limit) = First ∷ []
+inputs_of Normal = First ∷ []
+
+-- the command that has these inputs, and the inputs in the same order
+abbrev pub asked_of : {S : Type 0} → Opened S → Asked
+asked_of (opened.Check requirements environment candidates) = Check
+asked_of (opened.Matrix requirements environments candidates limit) = Matrix limit
+asked_of (opened.Same left right limit) = Same limit
+asked_of (opened.Conflicts requirements limit) = Conflicts limit
+asked_of (opened.Normal requirements) = Normal
+
+abbrev pub readers_of : {S : Type 0} → Opened S → List S
+readers_of (opened.Check requirements environment candidates) = requirements ∷ environment ∷ candidates ∷ []
+readers_of (opened.Matrix requirements environments candidates limit) =
+    requirements ∷ environments ∷ candidates ∷ []
+readers_of (opened.Same left right limit) = left ∷ right ∷ []
+readers_of (opened.Conflicts requirements limit) = requirements ∷ []
+readers_of (opened.Normal requirements) = requirements ∷ []
+
+-- readers are what was returned for the inputs, each at its place
+abbrev pub AreGiven : {S : Type 0} → (Input → Result S RunFault → Type 0) → List Input → List S → Type 0
+AreGiven gives inputs readers = AllZip (λ input reader. gives input (Ok reader)) inputs readers
+
+-- all inputs of a command are opened, or one is not
+abbrev pub Opens : {S : Type 0} → Asked → (Input → Result S RunFault → Type 0)
+    → Result (Opened S) RunFault → Type 0
+Opens asked gives (Ok opened) =
+    (asked_of opened ≡ asked) × AreGiven gives (inputs_of asked) (readers_of opened)
+Opens asked gives (Err fault) = (input : Input) × gives input (Err fault)
+
+-- ---- running the command on them
+
+-- all inputs were opened, and the command ends with this result on them
+pub record RunsAll {S W : Type 0} (asked : Asked) (format : Format)
+    (gives : Input → Result S RunFault → Type 0) (remaining : S → Option (List ℕ)) (vars : Variables)
+    (extras : List (List ℕ)) (contents : W → Option (List ℕ)) (old new : W)
+    (result : Result Status RunFault) : Type 0 where
+  pub readers : List S
+  pub opened : AreGiven gives (inputs_of asked) readers
+  pub runs : RunsAsked asked format vars extras (map remaining readers) contents old new result
+
+-- an input wasn't opened, or there was no memory for the variables, and nothing was written
+abbrev pub IsRefusedBefore : {S W : Type 0} → (Input → Result S RunFault → Type 0) → W → W
+    → Result Status RunFault → Type 0
+IsRefusedBefore gives old new (Ok status) = ⊥
+IsRefusedBefore gives old new (Err fault) =
+    (((input : Input) × gives input (Err fault)) ⊎ (fault ≡ Memory)) × (new ≡ old)
+
+-- how the command ends on the inputs that are opened
+abbrev pub RunsOpened : {S W : Type 0} → Asked → Format → (Input → Result S RunFault → Type 0)
+    → (S → Option (List ℕ)) → Variables → List (List ℕ) → (W → Option (List ℕ)) → W → W
+    → Result Status RunFault → Type 0
+RunsOpened asked format gives remaining vars extras contents old new result =
+    RunsAll asked format gives remaining vars extras contents old new result
+    ⊎ IsRefusedBefore gives old new result

@@ -1,0 +1,139 @@
+//! The opened inputs of a command, and running the command on them.
+
+ghost use Rattle.std.specs.Prelude.{◌≡◌, map};
+ghost use Rattle.reqs_command.specs.Opened.{asked_of, readers_of, Opens, RunsAsked};
+
+use crate::asked::Asked;
+use pep508_url::Vars;
+use reqs_answers::{check, matrix};
+use reqs_ends::{Input, RunFault, Status};
+use reqs_json::Format;
+use reqs_lists::{conflicts, normal, same};
+use std::alloc::Global;
+use std::io::{Read, Write};
+
+/// A command with its inputs.
+#[derive(Drop)]
+pub enum Opened<S: Drop> {
+    Check {
+        requirements: S,
+        environment: S,
+        candidates: S,
+    },
+    Matrix {
+        requirements: S,
+        environments: S,
+        candidates: S,
+        limit: u64,
+    },
+    Same {
+        left: S,
+        right: S,
+        limit: u64,
+    },
+    Conflicts {
+        requirements: S,
+        limit: u64,
+    },
+    Normal {
+        requirements: S,
+    },
+}
+
+/// Opens all inputs of a command, in the order of the command line.
+///
+/// # Errors
+///
+/// The fault of the first input that can't be opened.
+pub fn open_all<S, F>(asked: Asked, opener: F) -> Result<Opened<S>, RunFault>
+where
+    S: Drop,
+    F: Fn(Input) -> Result<S, RunFault>,
+    requires { F.IsAlwaysCallable opener }
+    ensures { Opens asked (F.post opener) result }
+{
+    let first = opener(Input::First)?;
+    match asked {
+        Asked::Check => Ok(Opened::Check {
+            requirements: first,
+            environment: opener(Input::Second)?,
+            candidates: opener(Input::Third)?,
+        }),
+        Asked::Matrix { limit } => Ok(Opened::Matrix {
+            requirements: first,
+            environments: opener(Input::Second)?,
+            candidates: opener(Input::Third)?,
+            limit,
+        }),
+        Asked::Same { limit } => Ok(Opened::Same {
+            left: first,
+            right: opener(Input::Second)?,
+            limit,
+        }),
+        Asked::Conflicts { limit } => Ok(Opened::Conflicts {
+            requirements: first,
+            limit,
+        }),
+        Asked::Normal => Ok(Opened::Normal {
+            requirements: first,
+        }),
+    }
+}
+
+/// Runs a command on its inputs, with its output in a format.
+///
+/// # Errors
+///
+/// The fault of the command.
+pub fn run_read<S: Read + Drop, W: Write>(
+    alloc: Global,
+    opened: &mut Opened<S>,
+    extras: &[&str],
+    vars: &Vars,
+    format: Format,
+    output: &mut W,
+) -> Result<Status, RunFault>
+    ensures { RunsAsked (asked_of opened.old) format vars.now (map (λ e. e.now) extras.now)
+        (map S.remaining (readers_of opened.old)) W.contents output.old output.new result }
+{
+    match opened {
+        Opened::Check {
+            requirements,
+            environment,
+            candidates,
+        } => check(
+            alloc,
+            requirements,
+            environment,
+            candidates,
+            extras,
+            vars,
+            format,
+            output,
+        ),
+        Opened::Matrix {
+            requirements,
+            environments,
+            candidates,
+            limit,
+        } => matrix(
+            alloc,
+            requirements,
+            environments,
+            candidates,
+            extras,
+            vars,
+            *limit,
+            format,
+            output,
+        ),
+        Opened::Same { left, right, limit } => same(
+            alloc, left, right, vars, *limit, format, output,
+        ),
+        Opened::Conflicts {
+            requirements,
+            limit,
+        } => conflicts(alloc, requirements, vars, *limit, format, output),
+        Opened::Normal { requirements } => normal(alloc, requirements, vars, format, output),
+    }
+}
