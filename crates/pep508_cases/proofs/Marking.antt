@@ -74,7 +74,7 @@ pub short_joined : (a b : Marked) → AreShort a → AreShort b → (leaves : Li
 short_joined a b short others [] = tt
 short_joined a b short others (places ∷ leaves) = (
   (let long = length-append (set_at a.sets.items places.0) (set_at b.sets.items places.1) in
-  let both = short_both a b short others places in omega (arith, long, both)),
+      let both = short_both a b short others places in omega (arith, long, both)),
   short_joined a b short others leaves,
 )
 

@@ -13,7 +13,9 @@ returns-clause-marked c = λ xs ys left right.
           left right,
       rooted_joined nodes c.args.a.now c.args.b.now
           (record {
-            diagram = c.in-Some.merged.diagram; sets = c.in_ok-sets.sets; count = c.args.a.now.count + c.args.b.now.count
+            diagram = c.in-Some.merged.diagram;
+            sets = c.in_ok-sets.sets;
+            count = c.args.a.now.count + c.args.b.now.count;
           }) c.in-Some.merged are refl,
     )
 
