@@ -19,7 +19,6 @@ PLACES = (
     ("crates/reqs_command/src/asked.rt", r'^const VERSION: &str = "'),
     ("rust/fowlyore/Cargo.toml", r'^version = "'),
     ("CHANGELOG.md", r"\A(?:(?!## \[\d).*\n)*## \["),
-    ("docs/C.md", r"\breqs_"),
     ("docs/C.md", r"^    reqs "),
     ("docs/PYTHON.md", r"\bfowlyore-"),
     ("tests/cli.sh", r'"--version" 0 "reqs '),

@@ -1,5 +1,5 @@
 /* reqs: judges lists of Python requirements, after PEP 440 and PEP 508. docs/C.md documents this library; the
- * Debian package has it as /usr/share/doc/reqs/C.md.
+ * Debian package libreqs-dev has it as /usr/share/doc/libreqs-dev/C.md.
  *
  * Texts. Each text is a pointer to bytes and their number; it is read as UTF-8, and needs no 0 at its end.
  * The pointer must not be null, even if the number is 0. A call reads the texts while it runs and keeps none

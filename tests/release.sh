@@ -52,7 +52,7 @@ makes() {
 }
 
 names_its_files() {
-    printf '%s\n' "$first/dist"/{*.whl,*.deb,SHA256SUMS,README.md} | cmp - "$work/out"
+    printf '%s\n' "$first/dist"/{*.whl,reqs_*.deb,libreqs2_*.deb,libreqs-dev_*.deb,SHA256SUMS,README.md} | cmp - "$work/out"
 }
 
 # For another caller, at another time, by one processor.
@@ -72,7 +72,8 @@ says_what_it_is_of() {
 }
 
 sums_hold() {
-    (cd -- "$first/dist" && sha256sum --quiet -c SHA256SUMS && [ "$(wc -l <SHA256SUMS)" -eq 2 ])
+    (cd -- "$first/dist" && sha256sum --quiet -c SHA256SUMS && [ "$(ls | wc -l)" -eq 6 ] &&
+        cut -c67- SHA256SUMS | sort | cmp - <(printf '%s\n' *.whl *.deb | sort))
 }
 
 keeps_its_sum() {
@@ -95,16 +96,16 @@ first_commands() {
 verifies() {
     local it
     run "$first" verify
-    for it in "$first"/dist/{*.whl,*.deb,SHA256SUMS}; do
+    for it in "$first"/dist/{*.whl,reqs_*.deb,libreqs2_*.deb,libreqs-dev_*.deb,SHA256SUMS}; do
         echo "${it##*/}: the same"
     done | cmp - "$work/out" && [ "$status" -eq 0 ]
 }
 
-# A wheel with another line in one of its files, a package that ends early, and no sums.
+# A wheel with another line in one of its files, a package that ends early, one that is not there, and no sums.
 finds_what_differs() {
     local wheel deb
     cp -r -- "$first/dist" "$work/changed" && wheel=("$work/changed"/*.whl) && deb=("$work/changed"/*.deb) || return
-    rm -- "$work/changed/SHA256SUMS" && truncate -s 3000 "${deb[0]}" || return
+    rm -- "$work/changed/SHA256SUMS" "${deb[1]}" && truncate -s 3000 "${deb[0]}" || return
     python3 - "${wheel[0]}" <<'END' || return
 import sys, zipfile
 with zipfile.ZipFile(sys.argv[1]) as wheel:
@@ -115,9 +116,10 @@ with zipfile.ZipFile(sys.argv[1], "w") as wheel:
         wheel.writestr(name, data)
 END
     run "$first" verify "$work/changed"
-    [ "$status $(grep -c ': the same' "$work/out")" = "1 0" ] && grep -qF "${wheel[0]##*/}: differs" "$work/out" &&
+    [ "$status $(grep ': the same' "$work/out")" = "1 ${deb[2]##*/}: the same" ] && grep -qF "${wheel[0]##*/}: differs" "$work/out" &&
         grep -q '^    Files .*/lists\.py differ$' "$work/out" && grep -qF "${deb[0]##*/}: differs" "$work/out" &&
-        grep -q "^    it can't be unpacked" "$work/out" && grep -qx 'SHA256SUMS: not there' "$work/out"
+        grep -q "^    it can't be unpacked" "$work/out" && grep -qxF "${deb[1]##*/}: not there" "$work/out" &&
+        grep -qx 'SHA256SUMS: not there' "$work/out"
 }
 
 refuses_logs() {
@@ -137,9 +139,12 @@ refuses_changes() {
 }
 
 refuses_another_release() {
-    mkdir -- "$work/older" && : >"$work/older/fowlyore-0.0.1-py3-none-any.whl"
-    run "$first" release "$work/older"
-    is_refused "of another release" && [ "$(ls "$work/older" | wc -l)" -eq 1 ]
+    local it
+    for it in fowlyore-0.0.1-py3-none-any.whl libreqs1_0.2.0_amd64.deb; do
+        mkdir -- "$work/older" && : >"$work/older/$it"
+        run "$first" release "$work/older"
+        is_refused "$it is of another release" && rm -- "$work/older/$it" && rmdir -- "$work/older" || return
+    done
 }
 
 refuses_what_is_large() {
