@@ -19,7 +19,7 @@ import sys
 from asked import code
 from crates import Crates
 
-BORROWERS = ("pep508_conjunctions", "pep508_requirement", "pep508_simplification")
+BORROWERS = ("pep508_conjunctions", "pep508_cases", "pep508_requirement", "pep508_simplification")
 LENT = {
     "uncounted_conjunction": ("pep508_tree", BORROWERS),
     "conjunction_of_all": ("pep508_conjunctions", ("pep508_marker_read",)),
