@@ -34,9 +34,8 @@ impl VersionSpecifiersParseError {
 
 impl From<AllocError> for VersionSpecifiersParseError {
     ghost use Rattle.std.specs.Prelude.{◌≡◌};
-    ghost use Rattle.pep440_specifier_list.specs.declared.parse_error.VersionSpecifiersParseError.TheVariants.{Memory};
 
-    ghost from_gives = { λ _ error. error ≡ Memory };
+    ghost from_gives = { λ _ error. error ≡ VersionSpecifiersParseError.Memory };
 
     fn from(_: AllocError) -> VersionSpecifiersParseError {
         VersionSpecifiersParseError::Memory
@@ -45,9 +44,8 @@ impl From<AllocError> for VersionSpecifiersParseError {
 
 impl<T: Drop> From<AllocFailed<T>> for VersionSpecifiersParseError {
     ghost use Rattle.std.specs.Prelude.{◌≡◌};
-    ghost use Rattle.pep440_specifier_list.specs.declared.parse_error.VersionSpecifiersParseError.TheVariants.{Memory};
 
-    ghost from_gives = { λ _ error. error ≡ Memory };
+    ghost from_gives = { λ _ error. error ≡ VersionSpecifiersParseError.Memory };
 
     fn from(_: AllocFailed<T>) -> VersionSpecifiersParseError {
         VersionSpecifiersParseError::Memory

@@ -45,10 +45,10 @@ pub trait MarkerTreeExpression {
         ensures counts { interner.new.conjunctions ≡ interner.old.conjunctions };
 }
 
+#[tactic(auto, unfolding(crate::specs::Expressions::has_points, crate::specs::Expressions::expression_holds))]
 impl MarkerTreeExpression for MarkerTree {
     ghost gives = { GivesTree };
 
-    #[tactic(auto, unfolding(crate::specs::Expressions::has_points, crate::specs::Expressions::expression_holds))]
     fn expression(
         alloc: Global,
         interner: &mut Interner,

@@ -58,3 +58,6 @@ text_of_other nodes sound tree made not_always not_never =
         let is = root_diagram nodes sound tree made n e in
         subst (λ d. Some (clauses_text (disjunction d)) ≡ marker_text d) (sym is)
         (sym (text_of_test n (diagram_of nodes) known.wide))
+
+-- The text of a tree, by whether it is a constant.
+pub ruleset text_rules = (no_text, text_of_never, text_of_other)

@@ -90,3 +90,6 @@ module _ {T : Type 0} (say : Saying T) where
         sym (ap (λ b. set_clauses say (turns_of b (turning (same_tree tree) b later))) held
         ∙ ap (one_or_intervals say (turns_of false (turning (same_tree tree) false later)))
         (begins_high (turning (same_tree tree) false later)))
+
+-- What the span of a set leaves out.
+pub ruleset span_rules = (excluded, none_excluded, not_below)

@@ -254,7 +254,7 @@ fn alone(
 
 /// Returns the clauses for where the tree is the child: one of what the value differs from, or one for each
 /// interval.
-#[tactic(auto, using(crate::proofs::Spanning::excluded, crate::proofs::Spanning::none_excluded, crate::proofs::Spanning::not_below))]
+#[tactic(auto, using(crate::proofs::Spanning::span_rules))]
 pub(crate) fn set_clauses<T, S: Says<T>>(
     alloc: Global,
     says: &S,

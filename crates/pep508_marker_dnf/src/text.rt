@@ -109,7 +109,7 @@ impl MarkerTreeText for MarkerTree {
         disjunction(alloc, self, interner)
     }
 
-    #[tactic(auto, using(crate::proofs::Constants::no_text, crate::proofs::Constants::text_of_never, crate::proofs::Constants::text_of_other))]
+    #[tactic(auto, using(crate::proofs::Constants::text_rules))]
     fn try_to_string(
         self,
         alloc: Global,

@@ -65,7 +65,7 @@ fn copy_of_flag(alloc: Global, flag: &Flag) -> Result<Flag, AllocError>
 }
 
 /// Returns a copy of a tree's root, with the tree's negation applied to its children.
-#[tactic(auto, using(crate::proofs::Rooted::copy_versions, crate::proofs::Rooted::copy_texts, crate::proofs::Rooted::known_versions, crate::proofs::Rooted::known_texts))]
+#[tactic(auto, using(crate::proofs::Rooted::root_rules))]
 pub(crate) fn copy_of_root(
     alloc: Global,
     interner: &Interner,

@@ -23,7 +23,7 @@ fn child_between<T>(children: Children<T>, index: usize) -> Option<MarkerTree>
     }
 }
 
-#[tactic(auto, using(pep508_evaluation::proofs::Choosing::version_child_at, pep508_evaluation::proofs::Choosing::text_child_at))]
+#[tactic(auto, using(pep508_evaluation::proofs::Choosing::child_rules))]
 fn child_at(tree: MarkerTree, interner: &Interner, index: usize) -> Option<MarkerTree>
     requires { IsTree interner.now.nodes tree }
     ensures { result ≡ slice_get (children_of (root_of interner.now.nodes tree)) index }

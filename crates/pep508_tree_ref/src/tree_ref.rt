@@ -74,7 +74,7 @@ impl<'a> MarkerTreeRef<'a> {
 
     /// Shows that the tree has no needless question, and each version is in its shortest spelling. Does
     /// nothing.
-    #[tactic(auto, using(pep508_tree::proofs::OneTree::canonical_trees, pep508_tree::proofs::Shortened::short_trees))]
+    #[tactic(auto, using(crate::proofs::Sound::sound_trees))]
     pub fn is_canonical(&self)
         ensures canonical { IsCanonical (diagram_in (tree_in self.now)) }
         ensures short { HasShortVersions (diagram_in (tree_in self.now)) }

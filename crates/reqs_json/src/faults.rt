@@ -72,7 +72,8 @@ pub fn usage_line(alloc: Global, message: &str) -> Result<String, AllocError>
 pub fn memory_line() -> &'static str
     ensures { result.now ≡ line_of (error_value (kind_of Memory) (codes "out of memory") None nowhere) }
 {
-    "{\"error\":{\"kind\":\"memory\",\"length\":null,\"line\":null,\"message\":\"out of memory\",\"path\":null,\"start\":null}}\n"
+    "{\"error\":{\"kind\":\"memory\",\"length\":null,\"line\":null,\"message\":\"out of memory\",\
+        \"path\":null,\"start\":null}}\n"
 }
 
 /// The object, on a line, of a fault of this kind with this message.
