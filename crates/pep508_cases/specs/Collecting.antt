@@ -20,12 +20,14 @@ tree_at found set = or_never (get marks_cmp found set)
 
 -- the trees are of these nodes, and none is the one that never holds
 abbrev pub AllMade : List NodeRecord → BTreeMap Marks Tree → Type 0
-AllMade nodes found = (set : Marks) → IfSome (get marks_cmp found set) (λ tree. IsTree nodes tree × (tree ≢ never))
+AllMade nodes found =
+    (set : Marks) → IfSome (get marks_cmp found set) (λ tree. IsTree nodes tree × (tree ≢ never))
 
 -- whether one of the first so many leaves is reached, and its set is this one
 abbrev pub reached_by : List Marks → ℕ → Marks → ℕ → Bool
 reached_by sets leaf set zero = false
-reached_by sets leaf set (suc k) = reached_by sets leaf set k || (same_marks set (set_at sets k) && (leaf == k))
+reached_by sets leaf set (suc k) =
+    reached_by sets leaf set k || (same_marks set (set_at sets k) && (leaf == k))
 
 -- for each set the tree that holds where it is reached
 pub record AreFound (start nodes : List NodeRecord) (m : Marked) (found : BTreeMap Marks Tree) : Type 0 where

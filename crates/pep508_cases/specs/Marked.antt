@@ -21,7 +21,8 @@ united sets others places = set_at sets places.0 ++ set_at others places.1
 pub record IsMarked (nodes : List NodeRecord) (trees : List Tree) (m : Marked) : Type 0 where
   pub diagram : IsDiagram nodes m.diagram
   pub count : length m.sets.items ≡ m.diagram.leaves
-  pub marks : (v : Valuation) → set_at m.sets.items (leaf_in nodes m.diagram m.diagram.root v) ≡ marks_of nodes trees v
+  pub marks : (v : Valuation) →
+      set_at m.sets.items (leaf_in nodes m.diagram m.diagram.root v) ≡ marks_of nodes trees v
 
 -- no set has more marks than there are trees
 abbrev pub AreShort : Marked → Type 0

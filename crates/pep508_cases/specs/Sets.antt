@@ -19,7 +19,7 @@ places_from at (false ∷ marks) = places_from (suc at) marks
 abbrev pub places_of : Marks → List ℕ
 places_of = places_from 0
 
--- how a set whose next member stands behind so many trees compares with one that has only so many, none of them
--- a member
+-- how a set whose next member stands behind so many trees compares with one that has only so many, none of
+-- them a member
 abbrev pub end_cmp : ℕ → ℕ → Ordering
 end_cmp gap rest = cond (nat_lt gap rest) Less Greater

@@ -62,7 +62,8 @@ fn add_tree(
     requires found { AllMade interner.old.nodes found.old }
     requires tree { IsTree interner.old.nodes tree }
     ensures made { IfOk result (λ _. AllMade interner.new.nodes found.new) }
-    ensures truth { IfOk result (λ _. (q : Marks) (v : Valuation) → holds interner.new.nodes (tree_at found.new q) v
+    ensures truth { IfOk result (λ _. (q : Marks) (v : Valuation) →
+        holds interner.new.nodes (tree_at found.new q) v
         ≡ (holds interner.old.nodes (tree_at found.old q) v
         || (same_marks q set && holds interner.old.nodes tree v))) }
     ensures keeps { Extends interner.old.nodes interner.new.nodes }

@@ -38,7 +38,8 @@ pub(crate) fn of_none(alloc: Global) -> Result<Marked, AllocError>
 
 /// Returns the sets of one tree.
 fn of_one(alloc: Global, tree: MarkerTree) -> Result<Marked, AllocError>
-    ensures marked { IfOk result (λ m. (nodes : List NodeRecord) → IsTree nodes tree → IsMarked nodes (tree ∷ []) m) }
+    ensures marked { IfOk result (λ m. (nodes : List NodeRecord) →
+        IsTree nodes tree → IsMarked nodes (tree ∷ []) m) }
     ensures short { IfOk result AreShort }
     ensures count { IfOk result (λ m. m.count ≡ 1) }
 {
@@ -126,7 +127,8 @@ fn joined(
     requires first { AreShort a.now }
     requires second { AreShort b.now }
     requires count { a.now.count + b.now.count ≤ usize.MAX }
-    ensures marked { IfOk result (λ m. IfSome m (λ m. (xs ys : List Tree) → IsMarked interner.now.nodes xs a.now →
+    ensures marked { IfOk result (λ m. IfSome m (λ m.
+        (xs ys : List Tree) → IsMarked interner.now.nodes xs a.now →
         IsMarked interner.now.nodes ys b.now → IsMarked interner.now.nodes (xs ++ ys) m × IsRooted m)) }
     ensures short { IfOk result (λ m. IfSome m AreShort) }
     ensures count { IfOk result (λ m. IfSome m (λ m. m.count ≡ a.now.count + b.now.count)) }
@@ -187,7 +189,8 @@ pub(crate) fn joined_with(
     requires short { AreShort marked.now }
     requires trees { AllByRecursion (IsTree interner.now.nodes) trees.now }
     requires count { marked.now.count + length trees.now ≤ usize.MAX }
-    ensures marked { IfOk result (λ m. IfSome m (λ m. (xs : List Tree) → IsMarked interner.now.nodes xs marked.now →
+    ensures marked { IfOk result (λ m. IfSome m (λ m.
+        (xs : List Tree) → IsMarked interner.now.nodes xs marked.now →
         IsMarked interner.now.nodes (xs ++ trees.now) m × IsRooted m)) }
     ensures short { IfOk result (λ m. IfSome m AreShort) }
     ensures count { IfOk result (λ m. IfSome m (λ m. m.count ≡ marked.now.count + length trees.now)) }

@@ -13,8 +13,8 @@ use std::alloc::{AllocError, Global};
 use std::cmp::Ordering;
 use std::marker::Model;
 
-/// Which of some trees are in a set: for each member how many trees stand between it and the member before it,
-/// and how many stand behind the last.
+/// Which of some trees are in a set: for each member how many trees stand between it and the member before
+/// it, and how many stand behind the last.
 #[derive(Drop)]
 pub struct TreeSet {
     gaps: Vec<usize>,
@@ -109,8 +109,8 @@ fn places_by(alloc: Global, gaps: &[usize]) -> Result<Vec<usize>, AllocError>
     Ok(places)
 }
 
-/// Compares two sets, given by their gaps, by the first tree at which they differ: the one that contains it comes
-/// first.
+/// Compares two sets, given by their gaps, by the first tree at which they differ: the one that contains it
+/// comes first.
 fn cmp_gaps(gaps: &[usize], rest: usize, others: &[usize], other_rest: usize) -> Ordering
     ensures { result ≡ marks_cmp (marks_by gaps.now rest) (marks_by others.now other_rest) }
 {
@@ -133,8 +133,8 @@ fn cmp_gaps(gaps: &[usize], rest: usize, others: &[usize], other_rest: usize) ->
     }
 }
 
-/// Returns how a set whose next member stands behind so many trees compares with one that has only so many trees
-/// left, and none of them.
+/// Returns how a set whose next member stands behind so many trees compares with one that has only so many
+/// trees left, and none of them.
 fn order_at_end(gap: usize, rest: usize) -> Ordering
     ensures { result ≡ end_cmp gap rest }
 {

@@ -1,5 +1,6 @@
 -- What diagrams mean whose leaves are numbers: the leaf that is reached under a valuation.
-use Rattle.std.specs.Prelude.{◌≡◌, ℕ, ◌<◌, cond, if◌then◌else◌, ◌==◌, List, [], ◌∷◌, ◌++◌, length, map, get_or}
+use Rattle.std.specs.Prelude.{◌≡◌, ℕ, ◌<◌, cond, if◌then◌else◌, ◌==◌, List}
+use Rattle.std.specs.Prelude.{[], ◌∷◌, ◌++◌, length, map, get_or}
 use Rattle.std.specs.declared.cmp.Ordering.TheVariants.{Less}
 use Rattle.pep508_diagram.specs.declared.branch.Branch.{Branch}
 use Rattle.pep508_diagram.specs.declared.variable.VersionVariable.TheVariants.{ImplementationVersion}

@@ -39,7 +39,8 @@ AreJoined first second node other pairs =
     ⊎ (((text_cmp (node_place node) (node_place other) ≡ Equal)
     × PairedNodes node other pairs)
     ⊎ ((text_cmp (node_place node) (node_place other) ≡ Greater)
-    × ArePaired (node_place other) (λ v. first) (chosen other) (λ c. c ≡ first) (λ c. IsChildIn c other) pairs))
+    × ArePaired (node_place other) (λ v. first) (chosen other)
+    (λ c. c ≡ first) (λ c. IsChildIn c other) pairs))
 
 -- a child of a diagram
 abbrev pub MadeIn : List NodeRecord → Diagram → Child → Type 0

@@ -1,5 +1,6 @@
 -- Diagrams in which but some leaves are told apart, and where leaves are reached, as marker trees.
-use Rattle.std.specs.Prelude.{◌≡◌, ℕ, ◌+◌, ◌&&◌, ◌++◌, ◌==◌, nat_le, nat_lt, Bool, cond, List, [], ◌∷◌, length, get_or}
+use Rattle.std.specs.Prelude.{◌≡◌, ℕ, ◌+◌, ◌&&◌, ◌++◌, ◌==◌, nat_le, nat_lt}
+use Rattle.std.specs.Prelude.{Bool, cond, List, [], ◌∷◌, length, get_or}
 use Rattle.std.specs.declared.cmp.Ordering.TheVariants.{Less}
 use Rattle.pep508_diagram.specs.Question.{Valuation}
 use Rattle.pep508_tree.specs.Tree.{Tree, constant, never}
@@ -27,7 +28,8 @@ pub record IsPart (count : ℕ) (nodes : List (NodeOf Child)) (root : Child) (le
     : Type 0 where
   pub graph : IsGraph [] count part.nodes.items
   pub stands : Stands count (length part.nodes.items) part.root
-  pub leaf : (v : Valuation) → leaf_at [] part.nodes.items part.root v ≡ narrow_leaf leaves (leaf_at [] nodes root v)
+  pub leaf : (v : Valuation) →
+      leaf_at [] part.nodes.items part.root v ≡ narrow_leaf leaves (leaf_at [] nodes root v)
 
 -- the tree that holds where a leaf is reached below a child, from those of nodes
 abbrev pub tree_below : List Tree → ℕ → Child → Tree

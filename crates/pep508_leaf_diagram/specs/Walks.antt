@@ -17,7 +17,8 @@ use Rattle.pep508_leaf_diagram.specs.Pairing.{leaf_in, AboveIn, AreSplit}
 use Rattle.pep508_leaf_diagram.specs.Forms.{record_of, others}
 
 -- what stands for children of two diagrams in nodes whose leaves are these pairs of leaves
-pub record IsBoth (inner : List NodeRecord) (a b : Diagram) (nodes : List (NodeOf Child)) (leaves : List (ℕ × ℕ))
+pub record IsBoth (inner : List NodeRecord) (a b : Diagram) (nodes : List (NodeOf Child))
+    (leaves : List (ℕ × ℕ))
     (first second child : Child) : Type 0 where
   pub stands : Stands (length leaves) (length nodes) child
   pub above : (place : List ℕ) → AboveIn inner a place first → AboveIn inner b place second →
@@ -55,5 +56,6 @@ pub record AreMerged (inner : List NodeRecord) (a b : Diagram) (merged : Merged)
   pub graph : IsGraph inner merged.diagram.leaves merged.diagram.nodes.items
   pub root : Stands merged.diagram.leaves (length merged.diagram.nodes.items) merged.diagram.root
   pub count : length merged.leaves.items ≡ merged.diagram.leaves
-  pub leaf : (v : Valuation) → get_or merged.leaves.items (leaf_in inner merged.diagram merged.diagram.root v) (0, 0)
+  pub leaf : (v : Valuation) →
+      get_or merged.leaves.items (leaf_in inner merged.diagram merged.diagram.root v) (0, 0)
       ≡ (leaf_in inner a a.root v, leaf_in inner b b.root v)

@@ -117,14 +117,16 @@ impl<C: Copy> Form<C> {
         }
     }
 
-    /// Returns the variable with another child for each of its children, in order; equal neighbours are joined.
+    /// Returns the variable with another child for each of its children, in order; equal neighbours are
+    /// joined.
     pub fn joined<D: Copy + PartialEq>(
         &self,
         alloc: Global,
         first: D,
         others: &[D],
     ) -> Result<Form<D>, AllocError>
-        ensures { IfOk result (λ form. record_of form ≡ node_joined D.eq (record_of self.now) first others.now) }
+        ensures { IfOk result (λ form.
+            record_of form ≡ node_joined D.eq (record_of self.now) first others.now) }
     {
         Ok(match self {
             Form::Versions(key, _, later) => Form::Versions(

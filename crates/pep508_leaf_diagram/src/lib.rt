@@ -1,7 +1,7 @@
 //! Decision diagrams over environment markers (PEP 508, "Environment Markers") whose leaves are numbers.
 //!
-//! Two are merged to their common refinement, whose leaves are pairs of the leaves of both. So the cases of many
-//! markers come from halves, at the cost of the diagram that comes out.
+//! Two are merged to their common refinement, whose leaves are pairs of the leaves of both. So the cases of
+//! many markers come from halves, at the cost of the diagram that comes out.
 #![tactic(auto)]
 
 mod child;

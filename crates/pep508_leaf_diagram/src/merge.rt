@@ -67,7 +67,8 @@ fn begun(
 
 /// Returns all children of a node of pairs, in order.
 fn all_pairs(alloc: Global, form: &Form<Pair>) -> Result<Vec<Pair>, AllocError>
-    ensures { IfOk result (λ pairs. pairs.items ≡ first_child (record_of form.now) ∷ others (record_of form.now)) }
+    ensures { IfOk result (λ pairs.
+        pairs.items ≡ first_child (record_of form.now) ∷ others (record_of form.now)) }
 {
     let mut pairs = Vec::new(alloc);
     pairs.push(form.first())?;
@@ -92,7 +93,8 @@ fn next_missing(walk: &mut Walk, pairs: &[Pair], from: usize) -> Result<usize, A
 
 /// Returns the pending pair with another count of merged children.
 fn up_to(waiting: Waiting, seen: usize) -> Waiting
-    ensures { (inner : List NodeRecord) (a b : Diagram) → IsWaiting inner a b waiting → IsWaiting inner a b result }
+    ensures { (inner : List NodeRecord) (a b : Diagram) →
+        IsWaiting inner a b waiting → IsWaiting inner a b result }
 {
     let Waiting {
         first,
@@ -110,8 +112,8 @@ fn up_to(waiting: Waiting, seen: usize) -> Waiting
     }
 }
 
-/// Makes the node of the last pending pair, or has its next child be pending. Returns `false` where neither can
-/// be done.
+/// Makes the node of the last pending pair, or has its next child be pending. Returns `false` where neither
+/// can be done.
 fn step(
     alloc: Global,
     interner: &Interner,
@@ -124,7 +126,8 @@ fn step(
     requires b { IsDiagram interner.now.nodes b.now }
     requires waiting { AllByRecursion (IsWaiting interner.now.nodes a.now b.now) waiting.old.items }
     requires walk { IsWalk interner.now.nodes a.now b.now walk.old }
-    ensures waiting { IfOk result (λ _. AllByRecursion (IsWaiting interner.now.nodes a.now b.now) waiting.new.items) }
+    ensures waiting { IfOk result (λ _.
+        AllByRecursion (IsWaiting interner.now.nodes a.now b.now) waiting.new.items) }
     ensures walk { IfOk result (λ _. IsWalk interner.now.nodes a.now b.now walk.new) }
 {
     let Some(top) = waiting.pop() else {
@@ -179,10 +182,11 @@ fn walked(
     Ok(None)
 }
 
-/// Returns the common refinement of two diagrams: a valuation reaches in it the leaf that stands for the pair of
-/// leaves that it reaches in both. Returns `None` where there are more than `most` leaves.
+/// Returns the common refinement of two diagrams: a valuation reaches in it the leaf that stands for the pair
+/// of leaves that it reaches in both. Returns `None` where there are more than `most` leaves.
 ///
-/// Each pair of nodes that some valuation reaches is merged once, in time linear in the edges that come out of it.
+/// Each pair of nodes that some valuation reaches is merged once, in time linear in the edges that come out
+/// of it.
 ///
 /// # Errors
 /// Where memory ran out.

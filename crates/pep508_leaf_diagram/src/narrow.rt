@@ -77,7 +77,8 @@ fn narrow_form(
     leaves: Leaves,
     form: &Form<Child>,
 ) -> Result<Form<Child>, AllocError>
-    ensures { IfOk result (λ narrow. record_of narrow ≡ node_joined ⟦<Child as PartialEq>⟧.eq (record_of form.now)
+    ensures { IfOk result (λ narrow.
+        record_of narrow ≡ node_joined ⟦<Child as PartialEq>⟧.eq (record_of form.now)
         (narrow_of leaves children.now (first_child (record_of form.now)))
         (map (narrow_of leaves children.now) (others (record_of form.now)))) }
 {

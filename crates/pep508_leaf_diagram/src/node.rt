@@ -81,7 +81,8 @@ fn of_trees<T: NodeValue>(
     negated: bool,
 ) -> Result<Vec<Branch<T, Child>>, AllocError>
     ensures { IfOk result (λ branches. branches.items
-        ≡ map (λ branch. record { boundary = branch.boundary; child = child_of (turned negated branch.child) })
+        ≡ map (λ branch.
+        record { boundary = branch.boundary; child = child_of (turned negated branch.child) })
         later.now) }
 {
     let mut branches = Vec::with_capacity(alloc, later.len())?;
@@ -135,7 +136,8 @@ pub(crate) fn opened(
     requires made { MadeIn interner.now.nodes diagram.now child }
     ensures { IfOk result (λ form.
         MatchOption form ((place : List ℕ) → AboveIn interner.now.nodes diagram.now place child)
-        (λ form. IsOpened interner.now.nodes diagram.now.leaves diagram.now.nodes.items child (record_of form))) }
+        (λ form. IsOpened interner.now.nodes
+        diagram.now.leaves diagram.now.nodes.items child (record_of form))) }
 {
     match child {
         Child::Leaf(_) => Ok(None),

@@ -44,7 +44,8 @@ fn with_second(alloc: Global, form: &Form<Child>, second: &Child) -> Result<Form
 fn with_first(alloc: Global, first: &Child, form: &Form<Child>) -> Result<Form<Pair>, AllocError>
     requires { IsRising (record_of form.now) }
     ensures { IfOk result (λ pairs. ArePaired (node_place (record_of form.now)) (λ v. first.now)
-        (chosen (record_of form.now)) (λ c. c ≡ first.now) (λ c. IsChildIn c (record_of form.now)) (record_of pairs)) }
+        (chosen (record_of form.now)) (λ c. c ≡ first.now)
+        (λ c. IsChildIn c (record_of form.now)) (record_of pairs)) }
 {
     match form {
         Form::Versions(key, second, later) => {
@@ -72,7 +73,8 @@ fn with_parts(
     second: &Child,
 ) -> Result<Form<Pair>, AllocError>
     requires rising { IsRising (record_of form.now) }
-    requires other_rising { IsRising (under (record_of form.now) first.now versions.now texts.now second.now) }
+    requires other_rising { IsRising (under (record_of form.now) first.now versions.now texts.now
+        second.now) }
     ensures { IfOk result (λ pairs. PairedNodes (record_of form.now)
         (under (record_of form.now) first.now versions.now texts.now second.now) (record_of pairs)) }
 {
@@ -101,7 +103,8 @@ fn with_form(
     requires same { text_cmp (node_place (record_of form.now)) (node_place (record_of other.now)) ≡ Equal }
     requires rising { IsRising (record_of form.now) }
     requires other_rising { IsRising (record_of other.now) }
-    ensures { IfOk result (λ pairs. PairedNodes (record_of form.now) (record_of other.now) (record_of pairs)) }
+    ensures { IfOk result (λ pairs.
+        PairedNodes (record_of form.now) (record_of other.now) (record_of pairs)) }
 {
     let first = other.first();
     let second = other.second();

@@ -3,7 +3,8 @@
 ghost use Rattle.std.specs.Prelude.{◌≡◌, ◌↔◌, [], ◌≤◌, length, map, get_or, IfOk, IsTrue};
 ghost use Rattle.pep508_tree.specs.Tree.{Tree, never};
 ghost use Rattle.pep508_tree.specs.Meaning.{IsTree, Extends};
-ghost use Rattle.pep508_tree.specs.Nodes.{first_child, node_place, AllChildren, Above, IsRising, IsJoined, Made};
+ghost use Rattle.pep508_tree.specs.Nodes.{first_child, node_place, AllChildren, Above};
+ghost use Rattle.pep508_tree.specs.Nodes.{IsRising, IsJoined, Made};
 ghost use Rattle.pep508_tree.specs.Truths.{IsTreeOf};
 ghost use Rattle.pep508_leaf_diagram.specs.Forms.{record_of, others};
 ghost use Rattle.pep508_leaf_diagram.specs.Joining.{node_joined};
@@ -67,7 +68,8 @@ fn form_of_trees(
     leaf: usize,
     form: &Form<Child>,
 ) -> Result<Form<MarkerTree>, AllocError>
-    ensures { IfOk result (λ made. record_of made ≡ node_joined ⟦<MarkerTree as PartialEq>⟧.eq (record_of form.now)
+    ensures { IfOk result (λ made.
+        record_of made ≡ node_joined ⟦<MarkerTree as PartialEq>⟧.eq (record_of form.now)
         (tree_below trees.now leaf (first_child (record_of form.now)))
         (map (tree_below trees.now leaf) (others (record_of form.now)))) }
 {
@@ -128,8 +130,8 @@ fn leaf_tree(
     Ok(tree_of(&trees, leaf, root))
 }
 
-/// Appends the trees of the leaves `from` up to `to`. Each half of the leaves has a smaller diagram made for it,
-/// so that a leaf costs the nodes on its way, and not all nodes.
+/// Appends the trees of the leaves `from` up to `to`. Each half of the leaves has a smaller diagram made for
+/// it, so that a leaf costs the nodes on its way, and not all nodes.
 fn push_trees(
     alloc: Global,
     interner: &mut Interner,
@@ -193,8 +195,8 @@ fn push_trees(
     Ok(())
 }
 
-/// Returns for each leaf of a diagram, in the order of their numbers, the tree that holds where it is reached.
-/// Makes no conjunction.
+/// Returns for each leaf of a diagram, in the order of their numbers, the tree that holds where it is
+/// reached. Makes no conjunction.
 ///
 /// Takes time linear in the edges of the trees that come out, times the logarithm of the number of leaves.
 ///
@@ -209,7 +211,8 @@ pub fn leaf_trees(
     requires root { Stands diagram.now.leaves (length diagram.now.nodes.items) diagram.now.root }
     ensures count { IfOk result (λ trees. length trees.items ≡ diagram.now.leaves) }
     ensures each { IfOk result (λ trees.
-        AreLeafTrees interner.new.nodes (leaf_in interner.old.nodes diagram.now diagram.now.root) 0 trees.items) }
+        AreLeafTrees interner.new.nodes
+        (leaf_in interner.old.nodes diagram.now diagram.now.root) 0 trees.items) }
     ensures keeps { Extends interner.old.nodes interner.new.nodes }
     ensures counts { interner.new.conjunctions ≡ interner.old.conjunctions }
 {

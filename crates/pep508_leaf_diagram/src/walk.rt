@@ -147,7 +147,8 @@ impl Walk {
 
     /// Returns the children of some pairs, if all are merged.
     fn get_all(&self, alloc: Global, pairs: &[Pair]) -> Result<Option<Vec<Child>>, AllocError>
-        ensures { IfOk result (λ children. IfSome children (λ children. (inner : List NodeRecord) (a b : Diagram) →
+        ensures { IfOk result (λ children. IfSome children (λ children.
+            (inner : List NodeRecord) (a b : Diagram) →
             IsWalk inner a b self.now →
             AreBoth inner a b self.now.nodes.items self.now.leaves.items pairs.now children.items)) }
     {
@@ -161,8 +162,8 @@ impl Walk {
         Ok(Some(children))
     }
 
-    /// Adds the node of a pair, whose children are the pairs of `form`. Returns `false` where one of these isn't
-    /// merged.
+    /// Adds the node of a pair, whose children are the pairs of `form`. Returns `false` where one of these
+    /// isn't merged.
     pub fn add_node(
         &mut self,
         alloc: Global,
