@@ -5,7 +5,7 @@
 
 A public call is a function that a user of the libraries can call: one at module level, of a type or of a
 trait, where the faces pep440_rs, pep508_rs, reqtable and reqs pass that function, type or trait on, where
-crates/reqs_answers, crates/reqs_lists or crates/reqs_ends imports it from a crate below, or where it is of the sets of version_ranges,
+crates/reqs_answers, crates/reqs_lists or crates/reqs_io_faults imports it from a crate below, or where it is of the sets of version_ranges,
 which specifiers are turned into. None is
 
 - a call whose signature names a type of the crates that no face passes on: inner crates lend it each other;
@@ -35,7 +35,7 @@ FACES = ("pep440_rs", "pep508_rs", "reqtable", "reqs", "reqs_io")
 # Of version_ranges the sets are public; their boundaries are lent to the crates of ranges and trees.
 SETS = ("Ranges", "RangeValue", "Iter")
 # Run by tests/cli.sh on the stored runs.
-RUN = ("reqs_ends", "reqs_json", "reqs_lists", "reqs_pieces", "reqs_rows", "reqs_answers", "reqs_command", "reqs_cli")
+RUN = ("reqs_io_faults", "reqs_json", "reqs_lists", "reqs_pieces", "reqs_rows", "reqs_answers", "reqs_command", "reqs_cli")
 # Calls that need no question, and why.
 LENT = "lent to the crates of trees, and public only since its type is"
 UNASKED = {
@@ -221,7 +221,7 @@ class Surface:
             self.pass_on_all(name)
         for name in SETS:
             self.pass_on("version_ranges", name)
-        for text in (text for it in ("reqs_ends", "reqs_lists", "reqs_answers") for text in libraries[it].files.values()):
+        for text in (text for it in ("reqs_io_faults", "reqs_lists", "reqs_answers") for text in libraries[it].files.values()):
             for _, path in use_paths(text):
                 if path[0] in libraries:
                     self.pass_on(path[0], path[1])

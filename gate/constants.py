@@ -32,7 +32,7 @@ class Kept(NamedTuple):
 
 TESTS = 'wants "requirements of 16777216 bytes, one comment" 0 ', 'wants "requirements that are too long" 2 '
 INPUT_LIMIT = Kept("INPUT_LIMIT", "a limit of the program's own", "tests/cli.sh", TESTS)
-LIMITED = ("reqs_ends.Ends.EndsAs", "reqs_ends.Inputs.IsWithin", "reqs_ends.Inputs.ReadsInput", "reqs_slices.Commands.RefusesInputs")
+LIMITED = ("reqs_io_faults.Ends.EndsAs", "reqs_io_faults.Inputs.IsWithin", "reqs_io_faults.Inputs.ReadsInput", "reqs_c_lists.Commands.RefusesInputs")
 KEPT = {it: INPUT_LIMIT for it in LIMITED}
 
 

@@ -56,8 +56,8 @@ DOCUMENTED = ["tests/documented.py", os.path.join(TOP, "crates", "reqs_cli", "ou
 # The parts that prove nothing, and leave nothing in the tree.
 TEXTS = (HELD, MUTANTS, NAMES, LENT, CONSTANTS, FITS, FIGURES, FILES, VERSIONS, DOCUMENTED)
 PYTHON_TESTS = "python/tests/test_specifiers.py"
-SPECIFIERS = "crates/reqs_versions/specs/Specifiers.antt"
-UNNOTICED = "reqs_versions.Specifiers.AreTaken: drop field is_list ="
+SPECIFIERS = "crates/reqs_c_versions/specs/Specifiers.antt"
+UNNOTICED = "reqs_c_versions.Specifiers.AreTaken: drop field is_list ="
 LOW = "crates/underline"
 LAST_USE = "use unicode_width::UnicodeWidthChar;\n"
 FAILING = "a_letter_takes_two_columns"
@@ -93,11 +93,11 @@ FAULTS = [
           "tests/wrong/underline/dashes_for_blanks.edit", "",
           "file: src/lib.rt\nold: c.width().unwrap_or(0)\nnew: match c.width() { Some(it) => it, None => 0 }\n"),
     Fault("a definition by the code's own table", None, CONSTANTS,
-          "crates/reqs_ends/specs/Inputs.antt", "abbrev pub IsWithin :", "abbrev pub IsShort :"),
+          "crates/reqs_io_faults/specs/Inputs.antt", "abbrev pub IsWithin :", "abbrev pub IsShort :"),
     Fault("a definition without one of its fields", None, HELD, SPECIFIERS,
           "  pub is_list : IsListIn bytes members\n  pub is_text : text ≡ map", "  pub is_text : text ≡ map"),
     Fault("a definition with another's name", None, HELD, SPECIFIERS,
-          "Rattle.reqs_versions.specs.Versions.{version_in}", "Rattle.pep508_environment.specs.EnvironmentValues.{version_in}"),
+          "Rattle.reqs_c_versions.specs.Versions.{version_in}", "Rattle.pep508_environment.specs.EnvironmentValues.{version_in}"),
     Fault("a definition whose mutants weren't tried as it stands", None, MUTANTS, SPECIFIERS,
           "  pub is_list : IsListIn bytes members\n  pub is_text : text ≡ map", "  pub is_text : text ≡ map"),
     Fault("a mutant that nothing notices, for no reason", None, MUTANTS,

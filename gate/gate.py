@@ -11,7 +11,7 @@
 
 Each part closes with a line `N passed, M failed`, or with two. The last line is that of their sums; the status is 0 where
 M is 0, and 2 where the words are others. Before it stands what was left out, for want of what this machine doesn't have.
-Parts that read texts are run side by side, beside the proofs; so are then those that run programs.
+Parts that read texts are run side by side, beside the proofs; so are those that run programs, each once these are proved.
 """
 
 import json
@@ -21,6 +21,7 @@ import resource
 import shutil
 import subprocess
 import sys
+import threading
 import time
 from concurrent.futures import ThreadPoolExecutor
 
@@ -33,6 +34,10 @@ from sources import sources
 from store import Store
 
 CLOSING = re.compile(r"^(?:[a-z]+: )?(\d+) passed, (\d+) failed$", re.M)
+# How the proofs say that a crate is proved.
+PROVED = re.compile(r"^rt: (\w+) proved$")
+# How many parts that run programs are run at a time.
+AT_A_TIME = 8
 # How a part says that it left something out, for want of what the machine may have another time.
 LEFT_OUT = re.compile(r"^(?:[a-z]+\.sh: left out|not tried): (.*)", re.M)
 NOTHING, RELEASE = "--from-nothing", "--release"
@@ -174,9 +179,51 @@ def judged_apart(part, crates, store):
     return counts
 
 
-def are_built(programs):
-    """Has programs built, which is no work where they were proved; the parts that run programs then find them there."""
-    return subprocess.run([sys.executable, "gate/built.py", *programs], cwd=TOP).returncode == 0
+class Programs:
+    """Which programs, and whether the library for C, are built. Each is laid out once it is proved, while others are still
+    being proved; what isn't heard of is looked for, or built, at the end."""
+
+    def __init__(self, names):
+        self.names, self.there, self.ended = names, set(), False
+        self.change, self.pool = threading.Condition(), ThreadPoolExecutor()
+
+    def hear(self, line):
+        """Takes a line that the proofs say."""
+        found = PROVED.match(line.strip())
+        if found and found[1] in self.names:
+            self.pool.submit(self.build, ["--kept"], [found[1]])
+
+    def build(self, how, names):
+        is_built = subprocess.run([sys.executable, "gate/built.py", *how, *names], cwd=TOP).returncode == 0
+        with self.change:
+            self.there.update(names if is_built else [])
+            self.change.notify_all()
+
+    def end(self):
+        """No more is proved from now on."""
+        self.pool.shutdown()
+        left = [it for it in self.names if it not in self.there]
+        if left:
+            self.build([], left)
+        with self.change:
+            self.ended = True
+            self.change.notify_all()
+
+    def await_all(self, names):
+        """Waits until these are there and says whether they are; without names, until the proofs have ended."""
+        with self.change:
+            self.change.wait_for(lambda: self.ended or names and self.there.issuperset(names))
+            return self.there.issuperset(names)
+
+
+def judged_once_built(part, crates, store, programs, turns):
+    """Judges a part that runs programs, once they are there."""
+    needs = [it for it in part.programs if it in programs.names]
+    if not programs.await_all(needs):
+        print(f"test: {part.name}: 0 passed, 1 failed, since not all of {', '.join(needs)} was built", flush=True)
+        return 0, 1, []
+    with turns:
+        return judged_apart(part, crates, store)
 
 
 def sources_said():
@@ -191,17 +238,20 @@ def gate(more, demands_all):
     began, store, crates = time.monotonic(), Store(reads=not more), Crates()
     of_sources = sources_said()
     of_texts, proofs, of_programs = parts(more)
-    with ThreadPoolExecutor() as pool:
+    programs, turns = Programs({"reqs_cli", "reqs_c", QUESTIONS}), threading.Semaphore(AT_A_TIME)
+
+    def show(text):
+        print(text, end="", flush=True)
+        programs.hear(text)
+
+    with ThreadPoolExecutor(len(of_texts) + len(of_programs)) as pool:
+        # (found once, before all ask for it)
+        verdicts.versions()
         beside = [pool.submit(judged_apart, it, crates, store) for it in of_texts]
-        counted = [judged(proofs, crates, store, lambda text: print(text, end="", flush=True))]
+        beside += [pool.submit(judged_once_built, it, crates, store, programs, turns) for it in of_programs]
+        counted = [judged(proofs, crates, store, show)]
+        programs.end()
         counted += [it.result() for it in beside]
-        if are_built(["reqs_cli", "reqs_c", QUESTIONS]):
-            # (found once, before all ask for it)
-            verdicts.versions()
-            counted += pool.map(lambda part: judged_apart(part, crates, store), of_programs)
-        else:
-            print("test: the programs and the library for C were not built, so nothing that runs them was tried")
-            counted.append((0, len(of_programs), []))
     left = [it for part in counted for it in part[2]]
     passed, failed = (sum(it[at] for it in counted) for at in (0, 1))
     if left:

@@ -37,7 +37,7 @@ TRUSTED = re.compile(r" incremental=trusted\n\Z")
 CHECKED = re.compile(r"^crate (\w+): modules loaded=\d+ checked=(\d+)$", re.M)
 # What a line takes by one job where kept work is there, what a line of the crates below takes, whose libraries are loaded
 # whole, and what loading takes of the memory of a check that proves.
-SECONDS_A_LINE, SECONDS_A_LINE_BELOW, LOADED = 0.03, 0.0008, 0.75
+SECONDS_A_LINE, SECONDS_A_LINE_BELOW, LOADED = 0.03, 0.0015, 0.75
 
 
 class Verdict:
@@ -104,8 +104,8 @@ class KeptProver(Prover):
         return f"{own}.{self.kind(name, tests)}.{WORK}"
 
     def only_loads(self, name, tests):
-        """Whether a check does little but load: over kept work, and a program, which is a call of a library."""
-        return self.kind(name, tests) == PROGRAM or self.store.has(self.work_entry(name, tests), ())
+        """Whether a check does little but load."""
+        return self.store.has(self.work_entry(name, tests), ())
 
     def loading(self, name):
         return SECONDS_A_LINE_BELOW * sum(it.lines() for it in self.crates.below(name))
@@ -116,7 +116,9 @@ class KeptProver(Prover):
         return self.loading(name) + super().seconds(name, tests, lines)
 
     def memory(self, name, tests, reckoned):
-        return LOADED * reckoned if self.only_loads(name, tests) else reckoned
+        # (a program is built by two compilers at a time)
+        builds = 2 if self.kind(name, tests) == PROGRAM else 1
+        return builds * LOADED * reckoned if self.only_loads(name, tests) else reckoned
 
     def most_jobs(self, name, tests):
         # (loading is done by one)
@@ -127,8 +129,7 @@ class KeptProver(Prover):
         if not {self.form(it) for it in self.crates[crate.name].uses} <= FITS[form]:
             print(f"gate: {crate.name} can't be proved as {form} over the libraries that are there", file=crate.out)
             return 1
-        if form != WHOLE or self.kind(crate.name, tests) == PROGRAM:
-            # (a program has few texts of its own, and both compilers take what one check without kept work proved)
+        if form != WHOLE:
             return super().prove(crate, flags, tests)
         entry = self.work_entry(crate.name, tests)
         room = tempfile.mkdtemp(prefix="reqs-kept-")
@@ -166,7 +167,7 @@ class KeptProver(Prover):
         kind = self.kind(crate.name, tests)
         words = [*crate.words(flags, tests=tests, keeps=False), "--incremental", work]
         if kind != LIBRARY:
-            return linked.build(crate, kind, words)
+            return linked.build(crate, kind, words, work)
         shutil.rmtree(os.path.dirname(crate.rlib), ignore_errors=True)
         os.makedirs(os.path.dirname(crate.rlib))
         return crate.prove(["build", *words, "-o", crate.rlib])

@@ -19,10 +19,13 @@ import sys
 from asked import code
 from crates import Crates
 
-BORROWERS = ("pep508_conjunctions", "pep508_requirement", "pep508_simplification")
+BORROWERS = ("pep508_conjunctions", "pep508_cases", "pep508_requirement", "pep508_simplification")
 LENT = {
     "uncounted_conjunction": ("pep508_tree", BORROWERS),
-    "conjunction_of_all": ("pep508_conjunctions", ("pep508_marker_read",)),
+    "root_child": ("pep508_evaluation", ("pep508_tree_ref",)),
+    "root_child_count": ("pep508_evaluation", ("pep508_tree_ref",)),
+    "has_float": ("pep508_environment", ("reqs_io_faults",)),
+    "conjunction_of_all": ("pep508_conjunctions", ("pep508_marker_parser",)),
     "copied_packages": ("reqtable_requirements", ("reqtable_packages", "reqs_tests")),
     "packages_table": ("reqtable_packages", ("reqtable_conflicts", "reqtable_compare")),
 }

@@ -13,9 +13,9 @@ from crates import TOP, Crates, kit_folder
 from lanes import GAIN, Lanes, Task
 from store import remove
 
-# The library for C runs on each processor of its kind, as wheels and Debian's packages say of what they hold.
+# Programs and the library for C run on each processor of their kind, as wheels and Debian's packages say of what they hold.
 CPU = "x86-64"
-LIBRARY, PROGRAM, STATIC, TESTS = "library", "program", f"static-{CPU}", "tests"
+LIBRARY, PROGRAM, STATIC, TESTS = "library", f"program-{CPU}", f"static-{CPU}", "tests"
 # A file in out/, or in out/rlib/, that says by its sum what lies there.
 MARK = "sum"
 # What a proof takes by one job, as measured: a crate is loaded, and then so much for a line. Functions of programs and of
@@ -65,6 +65,8 @@ class Prover:
         # (what an earlier run built there says nothing of this one)
         for it in parts:
             remove(os.path.join(out, it))
+        if self.kind(crate.name, tests) in (PROGRAM, STATIC):
+            crate.said["cpu"] = CPU
         status = self.prove(crate, flags, tests)
         lacking = [it for it in parts if not os.path.exists(os.path.join(out, it))]
         if status == 0 and lacking:
@@ -80,7 +82,7 @@ class Prover:
         if self.kind(crate.name, tests) != STATIC:
             return self.proves(crate, flags, tests)
         words = [*crate.words(flags, keeps=False), "--toolchain", os.path.join(kit_folder(), "toolchain")]
-        return crate.prove(["build", *words, "--cpu", CPU, "--backend", "llvm", "-o", f"out/{archive_of(crate.name)}"])
+        return crate.prove(["build", *words, "--backend", "llvm", "-o", f"out/{archive_of(crate.name)}"])
 
     def keep(self, crate, entry, tests):
         """Keeps what was proved, unless a text changed meanwhile."""

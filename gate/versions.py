@@ -16,7 +16,7 @@ NUMBER = r"(\d+(?:\.\d+)+)"
 # Each file with what stands before its version, which is there once.
 PLACES = (
     ("python/fowlyore/__init__.py", r'^__version__ = "'),
-    ("crates/reqs_command/src/asked.rt", r'^const VERSION: &str = "'),
+    ("crates/reqs_command/src/request.rt", r'^const VERSION: &str = "'),
     ("rust/fowlyore/Cargo.toml", r'^version = "'),
     ("CHANGELOG.md", r"\A(?:(?!## \[\d).*\n)*## \["),
     ("docs/C.md", r"^    reqs "),

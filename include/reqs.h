@@ -41,7 +41,7 @@ extern "C" {
 #endif
 
 /* The version number of this interface, which changes with it. */
-#define REQS_ABI 2u
+#define REQS_ABI 3u
 
 enum reqs_status {
     REQS_ANSWERED = 0,
@@ -61,9 +61,7 @@ typedef struct reqs_reply {
     size_t len;      /* the number of bytes at fault; 0 if it is unknown */
 } reqs_reply;
 
-/* What reqs_version_order and reqs_version_key return in addition to an order and a length. */
-#define REQS_ORDER_REFUSED 2
-#define REQS_ORDER_MEMORY 3
+/* What reqs_version_key returns in addition to a length. */
 #define REQS_KEY_REFUSED (-2)
 #define REQS_KEY_MEMORY (-3)
 
@@ -115,10 +113,11 @@ reqs_reply reqs_version(const uint8_t *text, size_t text_len, uint8_t *out, size
  * REQS_KEY_REFUSED if the text is not a version, REQS_KEY_MEMORY when memory runs out. */
 int64_t reqs_version_key(const uint8_t *text, size_t text_len, uint8_t *out, size_t out_len);
 
-/* -1, 0 or 1: the order of the left version and the right one; REQS_ORDER_REFUSED if one of them is not a
- * version, REQS_ORDER_MEMORY when memory runs out. */
-int32_t reqs_version_order(const uint8_t *left, size_t left_len,
-                           const uint8_t *right, size_t right_len);
+/* One byte, which says how the left version compares with the right one: '<', '=' or '>'. Refused at the first
+ * text that is not a version. */
+reqs_reply reqs_version_order(const uint8_t *left, size_t left_len,
+                              const uint8_t *right, size_t right_len,
+                              uint8_t *out, size_t out_len);
 
 /* The specifiers of a list, as >=1.0,<2, one per line, in the order of their versions. */
 reqs_reply reqs_specifiers(const uint8_t *text, size_t text_len, uint8_t *out, size_t out_len);

@@ -24,7 +24,7 @@ import fuzz
 from calls import request
 
 TOP = os.path.dirname(os.path.dirname(os.path.abspath(__file__)))
-INTERFACE = 2
+INTERFACE = 3
 ROOM = 1 << 20
 LIMIT = 4096
 ANSWERED, DIFFERENT, REFUSED, MEMORY = range(4)
@@ -325,17 +325,21 @@ def marker_keys(program):
 def orders(program):
     texts = [it.encode() for it in RISING]
     pairs = [(a, b) for a in range(len(texts)) for b in range(len(texts))]
-    replies = made(program, [("order", [texts[a], texts[b]], LIMIT, 0) for a, b in pairs])
-    sign = lambda a, b: (a > b) - (a < b)
-    wants("the order of versions", all(it.number == sign(a, b) for it, (a, b) in zip(replies, pairs)))
+    replies = made(program, [("order", [texts[a], texts[b]]) for a, b in pairs])
+    sign = lambda a, b: b"<" if a < b else b">" if a > b else b"="
+    wants("the order of versions", all((it.status, it.text()) == (ANSWERED, sign(a, b)) for it, (a, b) in zip(replies, pairs)))
     keys = [it.room[: it.number] for it in made(program, [("key", [it], LIMIT, 256) for it in texts])]
     wants("the order of keys", keys == sorted(keys) and len({*keys}) == len(keys))
     for a, b in SAME:
         keys_of = (("key", [it.encode()], LIMIT, 64) for it in (a, b))
-        reply, *keyed = made(program, [("order", [a.encode(), b.encode()], LIMIT, 0), *keys_of])
-        wants(f"{a} equals {b}", reply.number == 0 and keyed[0].room == keyed[1].room)
-    refused = made(program, [("order", [b"1", b"x"], LIMIT, 0), ("order", [b"\xff", b"1"], LIMIT, 0), ("key", [b"x"], LIMIT, 8)])
-    wants("the order and the key of no version", [it.number for it in refused] == [2, 2, -2] and refused[2].room == bytes([WAS] * 8))
+        reply, *keyed = made(program, [("order", [a.encode(), b.encode()]), *keys_of])
+        wants(f"{a} equals {b}", (reply.status, reply.text()) == (ANSWERED, b"=") and keyed[0].room == keyed[1].room)
+    refused = made(program, [("order", [b"1", b"x"]), ("order", [b"\xff", b"x"]), ("order", [b"1..0", b"1"])])
+    said = [(REFUSED, (2, 0, 0, 1)), (REFUSED, (1, 0, 0, 0)), (REFUSED, (1, 0, 0, 4))]
+    wants("the order of no version", [(it.status, it.place()) for it in refused] == said, refused)
+    wants("a reason why there is no order", all(it.length > 0 for it in refused))
+    without = made(program, [("key", [b"x"], LIMIT, 8)])[0]
+    wants("the key of no version", without.number == -2 and without.room == bytes([WAS] * 8))
 
 
 def batches(program):
@@ -404,7 +408,7 @@ def rooms(program):
     """Room of each size up to the whole text's and one more."""
     for call, texts in kinds():
         whole = made(program, [(call, texts)])[0]
-        length = whole.number if call == "key" else 0 if call == "order" else whole.length
+        length = whole.number if call == "key" else whole.length
         text = whole.room[:length]
         replies = [it for lot in in_lots([(call, texts, LIMIT, room) for room in range(length + 2)], 400) for it in made(program, lot)]
         is_so = all(it.room == (text + bytes([WAS]) * 2)[:room] and not it.behind and it.grown == 0
@@ -427,7 +431,7 @@ def refusals(program, refuse):
 
     def tried(call):
         whole = made(program, [(*call, LIMIT, 4096)])[0]
-        no_memory = {"key": -3, "order": 3}.get(call[0])
+        no_memory = {"key": -3}.get(call[0])
         for first in range(1, MOST_REQUESTS):
             for last in (first, ALL):
                 reply, was = refused(call, first, last)

@@ -16,7 +16,7 @@ import threading
 import types
 from typing import Any, Callable, Dict, List, NamedTuple, NoReturn, Optional, Tuple
 
-ABI = 2
+ABI = 3
 ANSWERED, DIFFERENT, REFUSED, MEMORY = 0, 1, 2, 3
 # What `reqs_version_key` gives in place of a length.
 KEY_REFUSED = -2

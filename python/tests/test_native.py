@@ -11,7 +11,7 @@ import unittest
 from fowlyore import _native
 
 HEADER = pathlib.Path(__file__).resolve().parents[2] / "include" / "reqs.h"
-TYPES = {"uint32_t": ctypes.c_uint32, "int64_t": ctypes.c_int64, "int32_t": ctypes.c_int32, "reqs_reply": _native.Reply}
+TYPES = {"uint32_t": ctypes.c_uint32, "int64_t": ctypes.c_int64, "reqs_reply": _native.Reply}
 TEXT, ROOM = [ctypes.c_char_p, ctypes.c_size_t], [ctypes.c_void_p, ctypes.c_size_t]
 # What the package doesn't call.
 UNUSED = {"reqs_version_order"}

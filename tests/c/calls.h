@@ -33,7 +33,7 @@ static reqs_reply made(uint64_t which, const uint8_t *const *text, const uint64_
     case KEY:
         return number(reqs_version_key(T(0), out, room));
     case ORDER:
-        return number(reqs_version_order(T(0), T(1)));
+        return reqs_version_order(T(0), T(1), out, room);
     case SPECIFIERS:
         return reqs_specifiers(T(0), out, room);
     case TAKE:

@@ -69,8 +69,7 @@ static reqs_reply version_key(uint8_t *out) {
 }
 
 static reqs_reply version_order(uint8_t *out) {
-    (void)out;
-    return number(reqs_version_order(TEXT("1.0.0.0.1"), TEXT("1.0.0.0.2+a")));
+    return reqs_version_order(TEXT("1.0.0.0.1"), TEXT("1.0.0.0.2+a"), OUT);
 }
 
 static reqs_reply specifiers(uint8_t *out) {

@@ -162,13 +162,13 @@ static void judge_place(const struct request *it, const reqs_reply *reply) {
 }
 
 static int gives_number(uint64_t which) {
-    return which == KEY || which == ORDER || which == ABI;
+    return which == KEY || which == ABI;
 }
 
 static void judge(const struct request *it, const reqs_reply *reply, const uint8_t *out) {
     if (gives_number(it->which)) {
         int64_t number = (int64_t)reply->length;
-        if (it->which == ORDER ? number < -1 || number > 2 : it->which == ABI ? number != REQS_ABI : number < -2) {
+        if (it->which == ABI ? number != REQS_ABI : number < -2) {
             stop("a number that the call doesn't give");
         }
         return;
@@ -204,7 +204,7 @@ static reqs_reply ask(struct request it, size_t room, uint8_t **out) {
     alarm(0);
     int64_t length = (int64_t)reply.length;
     for (uint8_t *at = fenced_out; at < fenced_out + SPACE; at++) {
-        int is_answer = at >= *out && at - *out < length && it.which != ORDER && it.which != ABI;
+        int is_answer = at >= *out && at - *out < length && it.which != ABI;
         if (*at != WAS && !is_answer) {
             stop("a byte was written outside of the answer");
         }

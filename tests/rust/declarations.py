@@ -20,7 +20,6 @@ KINDS = {
     "uint64_t": "u64",
     "uint32_t": "u32",
     "int64_t": "i64",
-    "int32_t": "i32",
     "reqs_reply": "Reply",
 }
 # What the header has and the crate has no use for: versions compare by their keys.

@@ -4,10 +4,10 @@ use Rattle.std.specs.String.{string_bytes}
 use Rattle.underline.specs.Underline.{columns, underlined}
 use Rattle.pep440_specifier.specs.SpecifierErrorPrints.{specifier_error_text}
 use Rattle.pep440_specifier_list.specs.declared.refused_piece.RefusedPiece.{RefusedPiece}
-use Rattle.pep440_specifier_list.specs.declared.parse_error.VersionSpecifiersParseError.{
+use Rattle.pep440_specifier_list.specs.declared.error.VersionSpecifiersParseError.{
   VersionSpecifiersParseError,
 }
-use Rattle.pep440_specifier_list.specs.declared.parse_error.VersionSpecifiersParseError.TheVariants as errors
+use Rattle.pep440_specifier_list.specs.declared.error.VersionSpecifiersParseError.TheVariants as errors
 
 -- the text that is not a list; empty for lack of memory
 abbrev pub line_of : VersionSpecifiersParseError → List ℕ

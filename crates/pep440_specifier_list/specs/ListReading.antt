@@ -9,10 +9,10 @@ use Rattle.read_outcome.specs.Outcome.{Tells}
 use Rattle.pep440_specifier.specs.Matching.{SpecifierRecord}
 use Rattle.pep440_specifier.specs.SpecifierReading.{SpecifierFault, specifier_reading, specifier_of}
 use Rattle.pep440_specifier.specs.SpecifierReading.{told_specifier}
-use Rattle.pep440_specifier_list.specs.declared.parse_error.VersionSpecifiersParseError.{
+use Rattle.pep440_specifier_list.specs.declared.error.VersionSpecifiersParseError.{
   VersionSpecifiersParseError,
 }
-use Rattle.pep440_specifier_list.specs.declared.parse_error.VersionSpecifiersParseError.TheVariants as errors
+use Rattle.pep440_specifier_list.specs.declared.error.VersionSpecifiersParseError.TheVariants as errors
 use Rattle.pep440_specifier_list.specs.Lists.{IsInOrder}
 
 -- ---- reading

@@ -6,9 +6,9 @@
 mod asking;
 mod bounds;
 mod counted;
+mod error;
 pub mod laws;
 mod ordering;
-mod parse_error;
 mod print;
 mod reading;
 mod refused_piece;
@@ -16,7 +16,7 @@ mod specifiers;
 mod value;
 
 pub use counted::CountedSpecifiers;
-pub use parse_error::VersionSpecifiersParseError;
+pub use error::VersionSpecifiersParseError;
 pub use print::BareCommas;
 pub use refused_piece::RefusedPiece;
 pub use specifiers::VersionSpecifiers;

@@ -1,6 +1,7 @@
 pub mod Marks
-pub mod CutTrees
-pub mod OneTreeMore
-pub mod Again
+pub mod Prefixes
 pub mod Counting
 pub mod Keeping
+pub mod Marking
+pub mod SetTrees
+mod Gaps

@@ -8,8 +8,8 @@
 pub mod laws;
 mod lists;
 mod minors;
-mod numbers;
 mod python;
+mod release_numbers;
 mod sets;
 
 pub use lists::{listed_range, python_listed_range};

@@ -6,7 +6,7 @@ ghost use Rattle.pep508_comparison.specs.Comparisons.{compared_numbers, python_p
 ghost use Rattle.pep508_comparison.specs.Comparisons.{python_version_points};
 
 use crate::minors::{before_next_minor, from_next_minor, in_minor};
-use crate::numbers::{are_zeros, compared_numbers};
+use crate::release_numbers::{are_zeros, compared_numbers};
 use crate::sets;
 use pep440_operator::Operator;
 use pep440_range::{RangeError, release_specifier_to_range};

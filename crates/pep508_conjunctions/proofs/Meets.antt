@@ -14,7 +14,7 @@ use Rattle.version_ranges.specs.Turns.{Rising, flips, reaches}
 use Rattle.pep508_diagram.specs.declared.branch.Branch.{Branch}
 use Rattle.pep508_diagram.specs.Branches.{RisingBranches, NeighboursDiffer, AllBranches, branch_at}
 use Rattle.pep508_diagram.proofs.Branching.{before_unreached}
-use Rattle.pep508_conjunctions.specs.declared.source.Source.{Source}
+use Rattle.pep508_conjunctions.specs.declared.borrowed_nodes.Source.{Source}
 use Rattle.pep508_tree.specs.Tree.{Tree}
 use Rattle.pep508_conjunctions.specs.declared.meet.Truths.{Truths}
 use Rattle.pep508_conjunctions.specs.Meets.{both_true, met, truth_at, truth_in, truth_branch, source_truth}

@@ -14,7 +14,7 @@ use Rattle.pep508_tree.specs.Nodes.{turned}
 use Rattle.pep508_tree.proofs.Disjoint.{always_holds}
 use Rattle.pep508_tree.proofs.Diagrams.{holds_kept}
 use Rattle.pep508_tree.proofs.Meanings.{holds_turned}
-use Rattle.pep508_conjunctions.specs.declared.order.Placed.{Placed}
+use Rattle.pep508_conjunctions.specs.declared.variable_order.Placed.{Placed}
 use Rattle.pep508_conjunctions.specs.Meets.{all_true}
 use Rattle.pep508_conjunctions.specs.Sources.{all_hold}
 use Rattle.pep508_conjunctions.specs.Orders.{indexed}

@@ -27,7 +27,7 @@ use Rattle.pep508_tree.proofs.Diagrams.{diagram_top, holds_kept}
 use Rattle.pep508_tree.proofs.Meanings.{holds_turned}
 use Rattle.pep508_tree.proofs.Storing.{same_boundaries, signed_chosen}
 use Rattle.pep508_conjunctions.specs.declared.meet.Truths.{Truths}
-use Rattle.pep508_conjunctions.specs.declared.source.Source.{Source}
+use Rattle.pep508_conjunctions.specs.declared.borrowed_nodes.Source.{Source}
 use Rattle.pep508_conjunctions.specs.Meets.{truth_in, truth_at, all_true, source_truth, source_later, AreSame}
 use Rattle.pep508_conjunctions.specs.Meets.{IsLeaf}
 use Rattle.pep508_conjunctions.specs.Sources.{IsSource, AreMeet, all_hold}

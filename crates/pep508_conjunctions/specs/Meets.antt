@@ -6,7 +6,7 @@ use Rattle.version_ranges.specs.Point.{Point}
 use Rattle.version_ranges.specs.Turns.{flips}
 use Rattle.pep508_diagram.specs.declared.branch.Branch.{Branch}
 use Rattle.pep508_diagram.specs.Branches.{RisingBranches, NeighboursDiffer, branch_at}
-use Rattle.pep508_conjunctions.specs.declared.source.Source.{Source}
+use Rattle.pep508_conjunctions.specs.declared.borrowed_nodes.Source.{Source}
 use Rattle.pep508_tree.specs.Tree.{Tree}
 use Rattle.pep508_conjunctions.specs.declared.meet.Truths.{Truths}
 

@@ -13,10 +13,10 @@ ghost use Rattle.pep508_diagram.specs.Question.{Valuation};
 ghost use Rattle.pep508_tree.specs.Meaning.{IsTree, Extends, holds};
 ghost use Rattle.pep508_conjunctions.specs.Sources.{AreMeet, all_hold};
 
+use crate::borrowed_nodes::{text_sources, version_sources};
 use crate::meet::{Truths, meet_all};
-use crate::order::in_order;
 use crate::owned::{constant, constants, owned};
-use crate::source::{text_sources, version_sources};
+use crate::variable_order::in_order;
 use pep440_version::Version;
 use pep508_diagram::{MarkerText, VersionVariable};
 use pep508_marker::MarkerValueString;

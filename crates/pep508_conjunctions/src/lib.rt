@@ -5,10 +5,10 @@
 #![tactic(auto)]
 
 mod all;
+mod borrowed_nodes;
 mod lent;
 mod meet;
-mod order;
 mod owned;
-mod source;
+mod variable_order;
 
 pub use all::conjunction_of_all;

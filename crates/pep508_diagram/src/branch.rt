@@ -6,7 +6,7 @@ ghost use Rattle.pep508_diagram.specs.Branches.{RisingBranches, branch_at, AllBr
 ghost use Rattle.pep508_diagram.specs.Chains.{IsChild};
 ghost use Rattle.pep508_diagram.specs.Pairing.{IsNext, AreChildPairs};
 
-use crate::value::NodeValue;
+use crate::node_value::NodeValue;
 use std::alloc::{AllocError, Global};
 use std::cmp::Ordering;
 use version_ranges::Boundary;

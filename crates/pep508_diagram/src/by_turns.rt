@@ -6,7 +6,7 @@ ghost use Rattle.pep508_diagram.specs.Branches.{by_turns};
 ghost use Rattle.pep508_diagram.specs.Shortened.{shortest, shortened, shortened_branch};
 
 use crate::branch::{Branch, copy_of};
-use crate::value::NodeValue;
+use crate::node_value::NodeValue;
 use pep440_version::Version;
 use std::alloc::{AllocError, Global};
 use version_ranges::Boundary;

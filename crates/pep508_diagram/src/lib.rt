@@ -8,12 +8,12 @@
 mod branch;
 mod by_turns;
 pub mod laws;
-mod text;
-mod value;
+mod marker_text;
+mod node_value;
 mod variable;
 
 pub use branch::{Branch, branch_at, paired, paired_children};
 pub use by_turns::{shortened_branches, turned_branches};
-pub use text::MarkerText;
-pub use value::NodeValue;
+pub use marker_text::MarkerText;
+pub use node_value::NodeValue;
 pub use variable::{Flag, VersionVariable, text_rank};

@@ -9,8 +9,8 @@ ghost use Rattle.std.specs.Prelude.{◌≡◌, IfOk};
 ghost use Rattle.pep508_marker.specs.Keys.{text_key_rank};
 ghost use Rattle.pep508_diagram.specs.Question.{text_rank, flag_rank, flag_text};
 
-use crate::text::MarkerText;
-use crate::value::NodeValue;
+use crate::marker_text::MarkerText;
+use crate::node_value::NodeValue;
 use pep508_marker::MarkerValueString;
 use pep508_name::ExtraName;
 use std::alloc::{AllocError, Global};

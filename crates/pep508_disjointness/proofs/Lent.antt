@@ -18,7 +18,7 @@ use Rattle.pep508_tree.specs.Roots.{IsRoot}
 use Rattle.pep508_tree.proofs.Meanings.{each_child, chosen_child}
 use Rattle.pep508_tree.proofs.Splitting.{above_later, alone_in}
 use Rattle.pep508_tree.proofs.Storing.{signed_place, signed_chosen, same_boundaries}
-use Rattle.pep508_disjointness.specs.declared.pairing.Side.{Side}
+use Rattle.pep508_disjointness.specs.declared.child_pairs.Side.{Side}
 use Rattle.pep508_disjointness.specs.Sides.{with_side, ShowsNode, AreSidePairs}
 use Rattle.pep508_disjointness.specs.Pairs.{ArePaired}
 use Rattle.pep508_disjointness.proofs.Apart.{IsSide, are_paired}

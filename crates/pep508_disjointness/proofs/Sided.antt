@@ -16,7 +16,7 @@ use Rattle.pep508_tree.specs.Nodes.{IsRising, counterpart, node_place, signed, f
 use Rattle.pep508_tree.specs.Nodes.{version_branches, text_branches}
 use Rattle.pep508_tree.specs.Roots.{IsRoot}
 use Rattle.pep508_tree.proofs.Pairs.{versions_paired, texts_paired, counterpart_same}
-use Rattle.pep508_disjointness.specs.declared.pairing.Side.{Side}
+use Rattle.pep508_disjointness.specs.declared.child_pairs.Side.{Side}
 use Rattle.pep508_disjointness.specs.Sides.{with_side, AreSidePairs}
 use Rattle.pep508_disjointness.specs.Pairs.{turned_pair}
 

@@ -6,7 +6,7 @@ use Rattle.pep508_tree.specs.Nodes.{Paired, counterpart, signed, first_child, se
 use Rattle.pep508_tree.specs.Nodes.{version_branches, text_branches}
 use Rattle.pep508_tree.specs.Joining.{children}
 use Rattle.pep508_tree.specs.Roots.{IsRoot}
-use Rattle.pep508_disjointness.specs.declared.pairing.Side.{Side}
+use Rattle.pep508_disjointness.specs.declared.child_pairs.Side.{Side}
 use Rattle.pep508_disjointness.specs.Pairs.{turned_pair}
 
 -- a node of the variable, with the children of the side

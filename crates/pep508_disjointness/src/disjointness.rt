@@ -12,7 +12,7 @@ ghost use Rattle.pep508_tree.specs.Nodes.{AreSound};
 ghost use Rattle.pep508_tree.specs.Disjoint.{AreDisjoint};
 ghost use Rattle.pep508_disjointness.specs.Left.{IsAsked, IsApart, Replaced, with_pairs};
 
-use crate::pairing::{Pair, pairs};
+use crate::child_pairs::{Pair, pairs};
 use pep508_tree::{Interner, MarkerTree, TreePair};
 use std::alloc::{AllocError, Global};
 use std::collections::BTreeSet;

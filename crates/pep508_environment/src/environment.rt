@@ -47,7 +47,7 @@ fn text(alloc: Global, value: &Value, name: EnvironmentMember) -> Result<String,
 }
 
 /// Returns the version that a member's text is, with the text.
-#[tactic(auto, using(pep440_version::proofs::Found::reads_found), unfolding(crate::specs::Environment::member_fault))]
+#[tactic(auto, using(crate::proofs::Reading::found), unfolding(crate::specs::Environment::member_fault))]
 fn version(
     alloc: Global,
     value: &Value,

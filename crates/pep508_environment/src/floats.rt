@@ -6,7 +6,7 @@ ghost use Rattle.serde_json.specs.View.{view, items_view, members_view};
 
 use serde_json::{Map, Value};
 
-/// Returns whether a value contains anywhere a number that is kept as a float.
+/// Returns whether a value contains at any depth a number that is kept as a float. Linear in the value.
 #[cycle(float)]
 pub fn has_float(value: &Value) -> bool
     ensures { result ≡ has_float (view value.now) }

@@ -16,15 +16,16 @@ use std::error::Error;
 use std::fmt;
 
 mod builder;
-mod comparing;
 mod environment;
+mod environment_equality;
+mod environment_value;
 mod floats;
 mod members;
 mod string_version;
-mod value;
 
 pub use builder::{EnvironmentBuildError, MarkerEnvironmentBuilder};
 pub use environment::MarkerEnvironment;
+pub use floats::has_float;
 pub use string_version::StringVersion;
 
 /// A member of an environment (PEP 508, "Environment Markers"). Prints as its name in JSON.

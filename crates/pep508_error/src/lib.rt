@@ -5,11 +5,11 @@
 mod cursor;
 mod error;
 mod excerpt;
+mod piece_stops;
 mod pieces;
 mod refusal;
-mod stop;
 
 pub use cursor::Cursor;
 pub use error::{Pep508Error, Pep508ErrorSource};
+pub use piece_stops::{Space, Stop, split};
 pub use refusal::{Refusal, RefusalKind};
-pub use stop::{Space, Stop, split};

@@ -1,6 +1,6 @@
 //! Pieces of the text after a place, and refusals of them.
 
-use crate::stop::split;
+use crate::piece_stops::split;
 use crate::{Cursor, Refusal, RefusalKind, Stop};
 
 impl<'a> Cursor<'a> {

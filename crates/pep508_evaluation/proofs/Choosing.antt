@@ -190,3 +190,6 @@ module _ (nodes : List NodeRecord) (tree : Tree) (environment : EnvironmentRecor
       GoesDown nodes tree (valuation_of environment extras) c
   goes_by_flag flag set unset c at known e =
       goes_to nodes tree (Flagged flag set unset) (valuation_of environment extras) c at known e
+
+-- By which child a node of each kind goes on.
+pub ruleset choice_rules = (goes_by_versions, goes_by_texts, goes_by_flag)

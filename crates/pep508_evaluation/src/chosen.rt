@@ -95,7 +95,7 @@ fn is_set(environment: &MarkerEnvironment, extras: &[ExtraName], flag: &Flag) ->
 }
 
 /// Returns the truth of a constant tree, or else the child that the environment selects.
-#[tactic(auto, using(crate::proofs::Choosing::goes_by_versions, crate::proofs::Choosing::goes_by_texts, crate::proofs::Choosing::goes_by_flag))]
+#[tactic(auto, using(crate::proofs::Choosing::choice_rules))]
 pub(crate) fn step(
     tree: MarkerTree,
     interner: &Interner,

@@ -83,9 +83,9 @@ fn child_at(tree: MarkerTree, interner: &Interner, index: usize) -> Option<Marke
     }
 }
 
-/// Returns a child of the node at a tree's root, by its place; `None` past the last child. Each was made
-/// before the tree.
-pub(crate) fn root_child(tree: MarkerTree, interner: &Interner, index: usize) -> Option<MarkerTree>
+/// Returns a child of the node at a tree's root, by its place from 0; `None` past the last child. Each was
+/// made before the tree.
+pub fn root_child(tree: MarkerTree, interner: &Interner, index: usize) -> Option<MarkerTree>
     requires { IsTree interner.now.nodes tree }
     ensures child { result ≡ slice_get (children_of (root_of interner.now.nodes tree)) index }
     ensures falls { MatchOption result (length (children_of (root_of interner.now.nodes tree)) ≤ index)
@@ -96,7 +96,7 @@ pub(crate) fn root_child(tree: MarkerTree, interner: &Interner, index: usize) ->
 }
 
 /// Returns the number of children of the node at a tree's root.
-pub(crate) fn root_child_count(tree: MarkerTree, interner: &Interner) -> usize
+pub fn root_child_count(tree: MarkerTree, interner: &Interner) -> usize
     requires { IsTree interner.now.nodes tree }
     ensures { result ≡ length (children_of (root_of interner.now.nodes tree)) }
 {

@@ -12,3 +12,4 @@ mod warned;
 
 pub use chosen::stands_in;
 pub use evaluation::MarkerTreeEvaluation;
+pub use holding::{root_child, root_child_count};

@@ -1,11 +1,11 @@
 //! Comparisons of environment markers as trees (PEP 508, "Environment Markers").
 #![tactic(auto)]
 
-mod expression;
+mod expression_tree;
 mod raised;
-mod texts;
-mod versions;
+mod text_trees;
+mod version_trees;
 
-pub use expression::{MarkerTreeExpression, comparison_tree};
+pub use expression_tree::{MarkerTreeExpression, comparison_tree};
 pub use raised::has_points;
-pub use versions::{compared_range, listed_by};
+pub use version_trees::{compared_range, listed_by};

@@ -13,7 +13,7 @@ ghost use Rattle.pep508_marker.specs.Expression.{expression_of};
 ghost use Rattle.pep508_expression.specs.Expressions.{has_points, compared_points, listed_points};
 ghost use Rattle.pep508_expression.specs.Raising.{is_small, has_small};
 
-use crate::versions::{compared_range, listed_by};
+use crate::version_trees::{compared_range, listed_by};
 use pep440_operator::Operator;
 use pep440_range::RangeError;
 use pep440_specifier::VersionSpecifier;

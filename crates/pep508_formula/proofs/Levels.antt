@@ -2,7 +2,7 @@
 use Rattle.std.proofs.Common.{◌≡◌, true, false, List, [], ◌∷◌, ◌++◌, Option, Some, None, is_some, refl, ap, sym}
 use Rattle.std.proofs.Common.{◌∙◌, true≢false}
 use Rattle.pep508_marker.specs.Expression.{ExpressionRecord}
-use Rattle.pep508_formula.specs.declared.builder.FormulaBuilder.{FormulaBuilder}
+use Rattle.pep508_formula.specs.declared.formula_builder.FormulaBuilder.{FormulaBuilder}
 use Rattle.pep508_formula.specs.Formula.{LeftOut, Both, Either}
 use Rattle.pep508_formula.specs.Postfix.{Part, ByAnd, ByOr, built, built_by, joined_last}
 use Rattle.pep508_formula.specs.Building.{Said, Begun, join_on, listed, stack_of, Stands}

@@ -1,8 +1,8 @@
 -- Formulas that were begun, each but the last waiting for the end of the next: `and` binds before `or`.
 use Rattle.std.specs.Prelude.{◌≡◌, List, [], ◌∷◌, ◌++◌, reverse, Option, Some, None, is_some}
 use Rattle.pep508_marker.specs.Expression.{ExpressionRecord}
-use Rattle.pep508_formula.specs.declared.builder.Level.{Level}
-use Rattle.pep508_formula.specs.declared.builder.FormulaBuilder.{FormulaBuilder}
+use Rattle.pep508_formula.specs.declared.formula_builder.Level.{Level}
+use Rattle.pep508_formula.specs.declared.formula_builder.FormulaBuilder.{FormulaBuilder}
 use Rattle.pep508_formula.specs.Formula.{Formula}
 use Rattle.pep508_formula.specs.Postfix.{built}
 

@@ -5,9 +5,9 @@ use Rattle.pep508_marker.specs.declared.expression.MarkerExpression.{MarkerExpre
 use Rattle.pep508_marker.specs.Expression.{ExpressionRecord, expression_of}
 use Rattle.pep508_formula.specs.declared.formula.Token.{Token}
 use Rattle.pep508_formula.specs.declared.formula.Token.TheVariants as tokens
-use Rattle.pep508_formula.specs.declared.parts.FormulaPart.{FormulaPart}
-use Rattle.pep508_formula.specs.declared.parts.FormulaPart.TheVariants as parts
-use Rattle.pep508_formula.specs.declared.parts.Parts.{Parts}
+use Rattle.pep508_formula.specs.declared.formula_parts.FormulaPart.{FormulaPart}
+use Rattle.pep508_formula.specs.declared.formula_parts.FormulaPart.TheVariants as parts
+use Rattle.pep508_formula.specs.declared.formula_parts.Parts.{Parts}
 use Rattle.pep508_formula.specs.Formula.{Formula, Says, LeftOut, Both, Either, joined}
 
 -- a comparison, a meaningless one, or what joins the last two formulas

@@ -8,7 +8,7 @@ ghost use Rattle.std.specs.Prelude.{◌≡◌, [], ◌∷◌, ◌++◌, OnOk};
 ghost use Rattle.pep508_marker.specs.Expression.{expression_of};
 ghost use Rattle.pep508_formula.specs.Postfix.{Compared, Passed, ByAnd, ByOr, parts_in};
 
-use crate::parts::Parts;
+use crate::formula_parts::Parts;
 use pep508_marker::MarkerExpression;
 use std::alloc::{AllocError, Global};
 use std::marker::Model;

@@ -4,13 +4,13 @@
 //! a tree tests its variables in one order, and whether a formula holds can be found without one.
 #![tactic(auto)]
 
-mod builder;
 mod formula;
+mod formula_builder;
+mod formula_parts;
 pub mod laws;
-mod parts;
 mod truth;
 
-pub use builder::FormulaBuilder;
 pub use formula::MarkerFormula;
-pub use parts::{FormulaPart, Parts};
+pub use formula_builder::FormulaBuilder;
+pub use formula_parts::{FormulaPart, Parts};
 pub use truth::{ExpressionTruth, formula_holds};

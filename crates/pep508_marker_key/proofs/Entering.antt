@@ -19,8 +19,8 @@ use Rattle.pep508_tree.proofs.NodeChildren.{first_of_children}
 use Rattle.pep508_tree.proofs.OneNode.{tied_trees}
 use Rattle.pep508_tree.proofs.Storing.{trees_same}
 use Rattle.pep508_tree.proofs.OneTree.{one_tree}
-use Rattle.pep508_marker_key.specs.declared.walk.Step.{Step}
-use Rattle.pep508_marker_key.specs.declared.walk.Step.TheVariants as step
+use Rattle.pep508_marker_key.specs.declared.key_walk.Step.{Step}
+use Rattle.pep508_marker_key.specs.declared.key_walk.Step.TheVariants as step
 use Rattle.pep508_marker_key.specs.Walk.{leaf_byte, is_alike, number_among, number_of}
 use Rattle.pep508_marker_key.specs.Key.{question_bytes}
 use Rattle.pep508_marker_key.specs.Numbering.{name_cmp, number_in}

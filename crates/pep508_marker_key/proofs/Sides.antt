@@ -25,8 +25,8 @@ use Rattle.pep508_tree.specs.Nodes.{AllChildren, Above, AreSound, node_place, si
 use Rattle.pep508_tree.specs.Roots.{root_of, IsRoot}
 use Rattle.pep508_tree.proofs.NodeChildren.{both_children, first_of_branches}
 use Rattle.pep508_tree.proofs.OneTree.{root_behind}
-use Rattle.pep508_marker_key.specs.declared.walk.Step.{Step}
-use Rattle.pep508_marker_key.specs.declared.walk.Step.TheVariants as step
+use Rattle.pep508_marker_key.specs.declared.key_walk.Step.{Step}
+use Rattle.pep508_marker_key.specs.declared.key_walk.Step.TheVariants as step
 use Rattle.pep508_marker_key.specs.Key.{question_bytes}
 use Rattle.pep508_marker_key.specs.Left.{Begun, GoneOn, node_from, questions_in, branch_diagram, item_of}
 use Rattle.pep508_marker_key.specs.Left.{sides, HasQuestion, IsStep, IsAsked, bytes_left}

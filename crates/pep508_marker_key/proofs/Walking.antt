@@ -5,8 +5,8 @@ use Rattle.std.specs.List.{AllByRecursion}
 use Rattle.std.proofs.lemmas.List.{append-nil, map-append, reverse-append, length-append}
 use Rattle.pep508_tree.specs.Tree.{Tree}
 use Rattle.pep508_tree.specs.Meaning.{NodeRecord, diagram_of, IsTree}
-use Rattle.pep508_marker_key.specs.declared.walk.Step.{Step}
-use Rattle.pep508_marker_key.specs.declared.walk.Step.TheVariants as step
+use Rattle.pep508_marker_key.specs.declared.key_walk.Step.{Step}
+use Rattle.pep508_marker_key.specs.declared.key_walk.Step.TheVariants as step
 use Rattle.pep508_marker_key.specs.Key.{diagram_key}
 use Rattle.pep508_marker_key.specs.Left.{item_of, items_of, IsStep, IsMade, bytes_left, items_bytes}
 

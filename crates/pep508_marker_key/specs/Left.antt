@@ -10,8 +10,8 @@ use Rattle.pep508_tree.specs.Tree.{Tree}
 use Rattle.pep508_tree.specs.Meaning.{NodeRecord, Versions, Texts, Flagged, node_diagram, diagram_of, IsTree}
 use Rattle.pep508_tree.specs.Nodes.{turned, first_child}
 use Rattle.pep508_tree.specs.Roots.{root_of}
-use Rattle.pep508_marker_key.specs.declared.walk.Step.{Step}
-use Rattle.pep508_marker_key.specs.declared.walk.Step.TheVariants as step
+use Rattle.pep508_marker_key.specs.declared.key_walk.Step.{Step}
+use Rattle.pep508_marker_key.specs.declared.key_walk.Step.TheVariants as step
 use Rattle.pep508_marker_key.specs.Walk.{Written, leaf_byte, both, written}
 use Rattle.pep508_marker_key.specs.Key.{question_bytes}
 

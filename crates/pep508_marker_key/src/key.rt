@@ -11,7 +11,7 @@ ghost use Rattle.pep508_tree.specs.Tree.{Tree};
 ghost use Rattle.pep508_tree.specs.Meaning.{IsTree, diagram_of};
 ghost use Rattle.pep508_marker_key.specs.Key.{diagram_key};
 
-use crate::walk::key_of_tree;
+use crate::key_walk::key_of_tree;
 use pep508_tree::{Interner, MarkerTree};
 use std::alloc::{AllocError, Global};
 

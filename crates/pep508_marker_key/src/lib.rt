@@ -3,9 +3,9 @@
 #![tactic(auto)]
 
 mod key;
+mod key_walk;
 pub mod laws;
-mod numbers;
 mod question;
-mod walk;
+mod tree_numbers;
 
 pub use key::MarkerTreeKey;

@@ -5,10 +5,10 @@ ghost use Rattle.pep508_tree.specs.Meaning.{IsTree, Extends};
 
 use crate::stop::{Stop, Told, answered, both, stop_behind, truth};
 use crate::warnings::Warnings;
+use pep508_comparison_parser::{parse_expression, parse_expression_reporter};
 use pep508_error::{Cursor, Pep508Error, Pep508ErrorSource};
 use pep508_marker::{MarkerExpression, Silent};
-use pep508_marker_comparison::{parse_expression, parse_expression_reporter};
-use pep508_marker_read::{MarkerTreeReading, read_marker};
+use pep508_marker_parser::{MarkerTreeReading, read_marker};
 use pep508_tree::{Interner, MarkerTree};
 use pep508_url::VerbatimUrl;
 use std::alloc::Global;

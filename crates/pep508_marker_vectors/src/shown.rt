@@ -4,8 +4,8 @@ ghost use Rattle.pep508_tree.specs.Meaning.{IsTree};
 
 use crate::reading::{read, refused};
 use crate::stop::{Told, answered, put, put_or, said, truth};
-use pep508_marker_contents::{MarkerTreeContents, MarkerTreeWithContents, ser};
-use pep508_marker_read::MarkerTreeReading;
+use pep508_marker_parser::MarkerTreeReading;
+use pep508_marker_serde::{MarkerTreeContents, MarkerTreeWithContents, ser};
 use pep508_tree::{Interner, MarkerTree};
 use pep508_tree_ref::MarkerTreeRef;
 use read_outcome::FromValueError;

@@ -5,7 +5,7 @@ ghost use Rattle.pep508_tree.specs.Meaning.{IsTree};
 use crate::reading::read;
 use crate::stop::{Told, answered, put_or};
 use pep508_marker::MarkerExpression;
-use pep508_marker_dnf::MarkerTreeText;
+use pep508_marker_display::MarkerTreeText;
 use pep508_tree::{Interner, MarkerTree};
 use std::alloc::{AllocError, Global};
 use std::fmt::Write;

@@ -15,14 +15,14 @@ use std::alloc::{AllocError, Global};
 use std::error::Error;
 use std::fmt;
 
-mod extra;
+mod extra_name;
 pub mod laws;
 mod normal;
 mod origin;
 mod package;
 mod unchanged;
 
-pub use extra::ExtraName;
+pub use extra_name::ExtraName;
 pub use normal::is_name;
 pub use origin::RequirementOrigin;
 pub use package::PackageName;

@@ -3,7 +3,7 @@
 ghost use Rattle.std.specs.Prelude.{◌≡◌, ◌≢◌, ◌↔◌, false};
 ghost use Rattle.pep508_diagram.specs.Diagram.{Diagram, Leaf};
 ghost use Rattle.pep508_diagram.specs.Question.{Question};
-ghost use Rattle.pep508_marker_text.specs.ReleaseBounds.{HasReleasesAlone};
+ghost use Rattle.pep508_marker_text_laws.specs.ReleaseBounds.{HasReleasesAlone};
 ghost use Rattle.pep508_diagram.specs.Questions.{AllQuestions};
 ghost use Rattle.pep508_reading_back.specs.Unquoted.{AsksOfModernKey, IsPlainDiagram, IsUnquotedDiagram};
 ghost use Rattle.pep508_questions.specs.Asks.{asks_any, has_quote, is_of_deprecated_key, is_other_bound};

@@ -3,7 +3,7 @@
 
 mod kinds;
 pub mod laws;
+mod question_walk;
 mod questions;
-mod walk;
 
 pub use questions::{Asked, MarkerTreeQuestions};

@@ -5,7 +5,7 @@ ghost use Rattle.pep508_tree.specs.Tree.{Tree};
 ghost use Rattle.pep508_tree.specs.Meaning.{IsTree, diagram_of};
 ghost use Rattle.pep508_questions.specs.Asks.{asked_by};
 
-use crate::walk::asked_of_tree;
+use crate::question_walk::asked_of_tree;
 use pep508_tree::{Interner, MarkerTree};
 use std::alloc::{AllocError, Global};
 

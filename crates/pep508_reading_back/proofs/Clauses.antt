@@ -6,12 +6,12 @@ use Rattle.std.specs.List.{AllByRecursion, list_all}
 use Rattle.std.specs.Prelude.{unwrap_or}
 use Rattle.std.specs.Str.{chars}
 use Rattle.pep508_marker.specs.Expression.{ExpressionRecord, expression_text}
-use Rattle.pep508_marker_read.specs.Formula.{joined, truth_in}
-use Rattle.pep508_marker_read.specs.MarkerReading.{Marker, And, Or, join_with}
-use Rattle.pep508_marker_read.specs.MarkerText.{IsComparisonText, join_all, IsMarkerText}
-use Rattle.pep508_marker_text.specs.Saying.{Clause}
-use Rattle.pep508_marker_text.specs.MarkerText.{clauses_text}
-use Rattle.pep508_marker_text.specs.Truth.{one_holds}
+use Rattle.pep508_marker_parser.specs.Formula.{joined, truth_in}
+use Rattle.pep508_marker_parser.specs.MarkerReading.{Marker, And, Or, join_with}
+use Rattle.pep508_marker_parser.specs.MarkerText.{IsComparisonText, join_all, IsMarkerText}
+use Rattle.pep508_marker_text_laws.specs.Saying.{Clause}
+use Rattle.pep508_marker_text_laws.specs.MarkerText.{clauses_text}
+use Rattle.pep508_marker_text_laws.specs.Truth.{one_holds}
 use Rattle.pep508_reading_back.specs.Clauses.{IsReadableClause, AreReadable, SaysClauses, ReadsClauses}
 use Rattle.pep508_reading_back.specs.Readable.{IsReadable, marker_of}
 use Rattle.pep508_reading_back.proofs.Comparisons.{comparison_read, comparison_utf8}

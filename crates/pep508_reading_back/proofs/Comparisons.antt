@@ -47,14 +47,14 @@ use Rattle.pep508_marker.specs.Values.{ValueRecord, VersionKey, TextKey, ExtraKe
 use Rattle.pep508_marker.specs.Values.{Arbitrary, key_of_text, version_key_of, text_key_of, extra_text}
 use Rattle.pep508_name.specs.Name.{name_of, is_name, is_name_byte, is_alphanumeric_at, normal_name}
 use Rattle.pep508_expression.specs.Expressions.{has_points}
-use Rattle.pep508_marker_comparison.specs.Compared.{Compared, compared, specifier_behind, of_specifier}
-use Rattle.pep508_marker_comparison.specs.Compared.{extra_of, of_extra, warned_of_name, extra_compared}
-use Rattle.pep508_marker_comparison.specs.SideReading.{ends_key, ends_word, ends_signs, AtEnd}
+use Rattle.pep508_comparison_parser.specs.Compared.{Compared, compared, specifier_behind, of_specifier}
+use Rattle.pep508_comparison_parser.specs.Compared.{extra_of, of_extra, warned_of_name, extra_compared}
+use Rattle.pep508_comparison_parser.specs.SideReading.{ends_key, ends_word, ends_signs, AtEnd}
 use Rattle.pep508_error.specs.Cuts.{begins_by}
-use Rattle.pep508_marker_read.specs.Formula.{Says}
-use Rattle.pep508_marker_read.specs.MarkerReading.{Marker, of_compared}
-use Rattle.pep508_marker_read.specs.MarkerText.{IsBefore, IsSpaced, IsSideText, IsOperatorText}
-use Rattle.pep508_marker_read.specs.MarkerText.{IsComparisonText}
+use Rattle.pep508_marker_parser.specs.Formula.{Says}
+use Rattle.pep508_marker_parser.specs.MarkerReading.{Marker, of_compared}
+use Rattle.pep508_marker_parser.specs.MarkerText.{IsBefore, IsSpaced, IsSideText, IsOperatorText}
+use Rattle.pep508_marker_parser.specs.MarkerText.{IsComparisonText}
 use Rattle.pep508_error.proofs.Cuts.{at_places}
 use Rattle.pep508_error.proofs.Tests.{and_parts}
 use Rattle.pep508_reading_back.specs.Readable.{IsQuotable, IsReadableExtra, IsReadable, warned_extra}

@@ -22,20 +22,20 @@ use Rattle.pep508_diagram.specs.Question.{Question, VersionBelow, TextBelow, IsS
 use Rattle.pep508_diagram.specs.Question.{IsCanonical}
 use Rattle.pep508_diagram.proofs.Questions.{one_marker_diagram}
 use Rattle.pep508_expression.specs.Expressions.{has_points, expression_holds}
-use Rattle.pep508_marker_text.specs.Clauses.{clauses_of}
-use Rattle.pep508_marker_text.specs.MarkerText.{disjunction, clauses_text, marker_text}
-use Rattle.pep508_marker_text.specs.ReleaseBounds.{HasReleasesAlone}
-use Rattle.pep508_marker_text.specs.SameTerms.{same_term, opposite_term}
-use Rattle.pep508_marker_text.specs.Saying.{Clause}
-use Rattle.pep508_marker_text.specs.Simplified.{has_some}
-use Rattle.pep508_marker_text.specs.Terms.{two_numbers, is_minor_of, kept_where, minor_between, version_term}
-use Rattle.pep508_marker_text.specs.Terms.{version_saying, text_saying, set_term, unset_term}
-use Rattle.pep508_marker_text.specs.Truth.{one_holds}
-use Rattle.pep508_marker_text.proofs.Disjunctions.{is_empty, empty_holds, always_leaf, disjunction_means}
-use Rattle.pep508_marker_text.proofs.Fitting.{Fits, AllFit, simplified_fit, GoodQuestion, AllSayingsFit}
-use Rattle.pep508_marker_text.proofs.Fitting.{walk_meets, points_fit}
+use Rattle.pep508_marker_text_laws.specs.Clauses.{clauses_of}
+use Rattle.pep508_marker_text_laws.specs.MarkerText.{disjunction, clauses_text, marker_text}
+use Rattle.pep508_marker_text_laws.specs.ReleaseBounds.{HasReleasesAlone}
+use Rattle.pep508_marker_text_laws.specs.SameTerms.{same_term, opposite_term}
+use Rattle.pep508_marker_text_laws.specs.Saying.{Clause}
+use Rattle.pep508_marker_text_laws.specs.Simplified.{has_some}
+use Rattle.pep508_marker_text_laws.specs.Terms.{two_numbers, is_minor_of, kept_where, minor_between, version_term}
+use Rattle.pep508_marker_text_laws.specs.Terms.{version_saying, text_saying, set_term, unset_term}
+use Rattle.pep508_marker_text_laws.specs.Truth.{one_holds}
+use Rattle.pep508_marker_text_laws.proofs.Disjunctions.{is_empty, empty_holds, always_leaf, disjunction_means}
+use Rattle.pep508_marker_text_laws.proofs.Fitting.{Fits, AllFit, simplified_fit, GoodQuestion, AllSayingsFit}
+use Rattle.pep508_marker_text_laws.proofs.Fitting.{walk_meets, points_fit}
 use Rattle.pep508_diagram.specs.Questions.{AllQuestions}
-use Rattle.pep508_marker_text.proofs.Where.{filter_all}
+use Rattle.pep508_marker_text_laws.proofs.Where.{filter_all}
 use Rattle.pep508_reading_back.specs.Readable.{IsReadable, IsReadableSpecifier}
 use Rattle.pep508_reading_back.specs.Clauses.{IsReadableClause, AreReadable}
 use Rattle.pep508_reading_back.specs.Diagrams.{IsReadableVersion, IsReadableText, IsReadableFlag}

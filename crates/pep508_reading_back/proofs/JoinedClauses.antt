@@ -7,13 +7,13 @@ use Rattle.std.specs.List.{AllByRecursion}
 use Rattle.std.specs.Prelude.{codes}
 use Rattle.std.specs.Str.{chars, IsUtf8}
 use Rattle.pep508_marker.specs.Expression.{ExpressionRecord, expression_text}
-use Rattle.pep508_marker_comparison.specs.SideReading.{ends_key}
-use Rattle.pep508_marker_read.specs.Formula.{LeftOut}
-use Rattle.pep508_marker_read.specs.MarkerReading.{Marker, And, Or}
-use Rattle.pep508_marker_read.specs.MarkerText.{IsBefore, IsComparisonText, IsEnclosed, join_all, IsJoined}
-use Rattle.pep508_marker_read.specs.MarkerText.{IsEither, IsFormulaText, IsMarkerText}
-use Rattle.pep508_marker_text.specs.Saying.{Clause}
-use Rattle.pep508_marker_text.specs.MarkerText.{clause_text, bracketed_text, clauses_text}
+use Rattle.pep508_comparison_parser.specs.SideReading.{ends_key}
+use Rattle.pep508_marker_parser.specs.Formula.{LeftOut}
+use Rattle.pep508_marker_parser.specs.MarkerReading.{Marker, And, Or}
+use Rattle.pep508_marker_parser.specs.MarkerText.{IsBefore, IsComparisonText, IsEnclosed, join_all, IsJoined}
+use Rattle.pep508_marker_parser.specs.MarkerText.{IsEither, IsFormulaText, IsMarkerText}
+use Rattle.pep508_marker_text_laws.specs.Saying.{Clause}
+use Rattle.pep508_marker_text_laws.specs.MarkerText.{clause_text, bracketed_text, clauses_text}
 use Rattle.pep508_reading_back.proofs.Plain.{ascii_by, ascii_chars, front_chars}
 use Rattle.pep508_reading_back.proofs.Joining.{Piece, Leads, comparison_leads, enclosed_leads, joined_leads}
 use Rattle.pep508_reading_back.proofs.Joining.{Pieces, joined_utf8, joined_read}

@@ -5,9 +5,9 @@ use Rattle.std.proofs.lemmas.Str.{chars-append, IsUtf8-append, IsUtf8-from_ascii
 use Rattle.std.proofs.lemmas.Str.Ascii.{IsAscii-nil}
 use Rattle.std.specs.List.{AllByRecursion, join_by, flat_map}
 use Rattle.std.specs.Str.{chars, IsAscii, IsUtf8}
-use Rattle.pep508_marker_comparison.specs.SideReading.{ends_key}
-use Rattle.pep508_marker_read.specs.MarkerReading.{Marker, Connective, And, Or, word_of}
-use Rattle.pep508_marker_read.specs.MarkerText.{IsBefore, IsSpaced, IsComparisonText, IsEnclosed, AreJoined}
+use Rattle.pep508_comparison_parser.specs.SideReading.{ends_key}
+use Rattle.pep508_marker_parser.specs.MarkerReading.{Marker, Connective, And, Or, word_of}
+use Rattle.pep508_marker_parser.specs.MarkerText.{IsBefore, IsSpaced, IsComparisonText, IsEnclosed, AreJoined}
 use Rattle.pep508_reading_back.proofs.Plain.{ascii_by, front_chars}
 
 abbrev pub Piece : Type 1

@@ -33,18 +33,18 @@ use Rattle.pep508_diagram.specs.declared.variable.Flag.{Flag}
 use Rattle.pep508_diagram.specs.declared.variable.Flag.TheVariants as flag
 use Rattle.pep508_diagram.specs.Diagram.{Diagram, Leaf, Test}
 use Rattle.pep508_diagram.specs.Question.{Question, VersionBelow, TextBelow, IsSet, flag_text}
-use Rattle.pep508_marker_text.specs.Clauses.{clauses_of}
-use Rattle.pep508_marker_text.specs.MarkerText.{disjunction, clause_text, bracketed_text, clauses_text}
-use Rattle.pep508_marker_text.specs.MarkerText.{marker_text}
-use Rattle.pep508_marker_text.specs.SameTerms.{same_term, opposite_term}
-use Rattle.pep508_marker_text.specs.Saying.{Clause}
-use Rattle.pep508_marker_text.specs.Simplified.{has_some}
-use Rattle.pep508_marker_text.specs.Terms.{minor_between, version_term, version_saying, text_saying, set_term}
-use Rattle.pep508_marker_text.specs.Terms.{unset_term}
-use Rattle.pep508_marker_text.proofs.Fitting.{Fits, AllFit, AllSayingsFit, GoodQuestion, simplified_fit}
+use Rattle.pep508_marker_text_laws.specs.Clauses.{clauses_of}
+use Rattle.pep508_marker_text_laws.specs.MarkerText.{disjunction, clause_text, bracketed_text, clauses_text}
+use Rattle.pep508_marker_text_laws.specs.MarkerText.{marker_text}
+use Rattle.pep508_marker_text_laws.specs.SameTerms.{same_term, opposite_term}
+use Rattle.pep508_marker_text_laws.specs.Saying.{Clause}
+use Rattle.pep508_marker_text_laws.specs.Simplified.{has_some}
+use Rattle.pep508_marker_text_laws.specs.Terms.{minor_between, version_term, version_saying, text_saying, set_term}
+use Rattle.pep508_marker_text_laws.specs.Terms.{unset_term}
+use Rattle.pep508_marker_text_laws.proofs.Fitting.{Fits, AllFit, AllSayingsFit, GoodQuestion, simplified_fit}
 use Rattle.pep508_diagram.specs.Questions.{AllQuestions}
-use Rattle.pep508_marker_text.proofs.Fitting.{walk_meets}
-use Rattle.pep508_marker_text.proofs.Where.{filter_all}
+use Rattle.pep508_marker_text_laws.proofs.Fitting.{walk_meets}
+use Rattle.pep508_marker_text_laws.proofs.Where.{filter_all}
 use Rattle.pep508_requirement_text.specs.FrontReading.{Front, Source}
 use Rattle.pep508_requirement_text.specs.FrontReading.Source.{Any, Specifiers, Url}
 use Rattle.pep508_requirement.specs.declared.version_or_url.VersionOrUrl.{VersionOrUrl}

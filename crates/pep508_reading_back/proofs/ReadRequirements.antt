@@ -4,8 +4,8 @@ use Rattle.std.specs.Str.{skip_leading_whitespace}
 use Rattle.pep508_diagram.specs.Diagram.{Diagram}
 use Rattle.pep508_diagram.specs.Question.{Question, Valuation, truth}
 use Rattle.pep508_tree.specs.Meaning.{NodeRecord, holds}
-use Rattle.pep508_marker_read.specs.MarkerOutcome.{IsTreeOf}
-use Rattle.pep508_marker_read.specs.MarkerReading.{Marker}
+use Rattle.pep508_marker_parser.specs.MarkerOutcome.{IsTreeOf}
+use Rattle.pep508_marker_parser.specs.MarkerReading.{Marker}
 use Rattle.pep508_requirement_text.specs.FrontReading.{Front, front_reading}
 use Rattle.pep508_requirement.specs.declared.requirement.Requirement.{Requirement}
 use Rattle.pep508_requirement.specs.MarkerBehind.{marker_behind}

@@ -20,10 +20,10 @@ use Rattle.pep440_text.specs.Print.{version_text}
 use Rattle.pep508_name.specs.Name.{name_of}
 use Rattle.pep508_diagram.specs.Diagram.{Diagram, Leaf, Test}
 use Rattle.pep508_diagram.specs.Question.{Question, IsCanonical}
-use Rattle.pep508_marker_read.specs.MarkerReading.{Marker, And, Or}
-use Rattle.pep508_marker_read.specs.MarkerText.{IsJoined, IsFormulaText, IsMarkerText}
+use Rattle.pep508_marker_parser.specs.MarkerReading.{Marker, And, Or}
+use Rattle.pep508_marker_parser.specs.MarkerText.{IsJoined, IsFormulaText, IsMarkerText}
 use Rattle.pep508_error.proofs.Cuts.{at_places}
-use Rattle.pep508_marker_text.specs.MarkerText.{clauses_text, disjunction, marker_text}
+use Rattle.pep508_marker_text_laws.specs.MarkerText.{clauses_text, disjunction, marker_text}
 use Rattle.pep508_requirement_text.specs.FrontReading.{Front, begins_operator}
 use Rattle.pep508_requirement_text.specs.FrontReading as front
 use Rattle.pep508_requirement_text.specs.FrontReading.Source.{Any, Specifiers, Url}

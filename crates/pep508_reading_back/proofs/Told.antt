@@ -10,9 +10,9 @@ use Rattle.pep508_diagram.specs.Question.{IsCanonical}
 use Rattle.pep508_diagram.specs.Shortened.{HasShortVersions}
 use Rattle.pep508_marker.specs.Expression.{ExpressionRecord}
 use Rattle.pep508_expression.specs.Expressions.{expression_holds}
-use Rattle.pep508_marker_read.specs.Formula.{Formula, formula_holds}
-use Rattle.pep508_marker_read.specs.MarkerOutcome.{IsTreeOf}
-use Rattle.pep508_marker_read.specs.MarkerReading.{Marker}
+use Rattle.pep508_marker_parser.specs.Formula.{Formula, formula_holds}
+use Rattle.pep508_marker_parser.specs.MarkerOutcome.{IsTreeOf}
+use Rattle.pep508_marker_parser.specs.MarkerReading.{Marker}
 use Rattle.pep508_requirement.specs.RequirementText.{IsBehindText, IsMarkedText}
 use Rattle.pep508_requirement_text.specs.FrontReading.{Front}
 use Rattle.pep508_requirement_text.specs.FrontText.{IsFrontText}

@@ -21,8 +21,8 @@ use Rattle.pep508_diagram.specs.Text.{text_cmp}
 use Rattle.pep508_diagram.specs.Question.{Valuation, answer}
 use Rattle.pep508_expression.specs.Expressions.{variable_of, text_holds, extra_flag, extra_holds}
 use Rattle.pep508_expression.specs.Expressions.{expression_holds}
-use Rattle.pep508_marker_read.specs.Formula.{Formula, Says, LeftOut, Both, Either, joined, truth_in}
-use Rattle.pep508_marker_read.specs.Formula.{formula_holds}
+use Rattle.pep508_marker_parser.specs.Formula.{Formula, Says, LeftOut, Both, Either, joined, truth_in}
+use Rattle.pep508_marker_parser.specs.Formula.{formula_holds}
 use Rattle.pep508_reading_back.specs.Asked.{AnswerAlike}
 use Rattle.pep508_reading_back.specs.Told.{asked_releases, version_questions, release_questions}
 use Rattle.pep508_reading_back.specs.Told.{listed_questions, text_questions, questions_of_term, questions_of}

@@ -31,11 +31,11 @@ use Rattle.pep508_marker.specs.declared.operators.ExtraOperator.{ExtraOperator}
 use Rattle.pep508_marker.specs.Expression.{ExpressionRecord}
 use Rattle.pep508_marker.specs.Operators.{inverted, specifier_operator, extra_operator}
 use Rattle.pep508_marker.specs.Values.{ValueRecord, VersionKey, TextKey, ExtraKey, Quoted}
-use Rattle.pep508_marker_comparison.specs.Compared.{Compared, of_specifier, specifier_behind}
-use Rattle.pep508_marker_comparison.specs.Compared.{specifier_before, runs_of, with_version, versions_of}
-use Rattle.pep508_marker_comparison.specs.Compared.{of_list, version_before, version_behind, text_compared}
-use Rattle.pep508_marker_comparison.specs.Compared.{extra_of, of_extra, warned_of_name, extra_compared}
-use Rattle.pep508_marker_comparison.specs.Compared.{compared}
+use Rattle.pep508_comparison_parser.specs.Compared.{Compared, of_specifier, specifier_behind}
+use Rattle.pep508_comparison_parser.specs.Compared.{specifier_before, runs_of, with_version, versions_of}
+use Rattle.pep508_comparison_parser.specs.Compared.{of_list, version_before, version_behind, text_compared}
+use Rattle.pep508_comparison_parser.specs.Compared.{extra_of, of_extra, warned_of_name, extra_compared}
+use Rattle.pep508_comparison_parser.specs.Compared.{compared}
 use Rattle.pep508_reading_back.specs.Told.{asked_releases, version_questions, release_questions}
 use Rattle.pep508_reading_back.specs.Told.{listed_questions, text_questions, questions_of_term, AsksOf}
 use Rattle.pep508_reading_back.proofs.Diagrams.{release_printable}

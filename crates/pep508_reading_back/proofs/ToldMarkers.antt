@@ -15,15 +15,15 @@ use Rattle.pep508_marker.specs.declared.keys.MarkerValueString.{MarkerValueStrin
 use Rattle.pep508_marker.specs.Expression.{ExpressionRecord}
 use Rattle.pep508_marker.specs.Values.{ValueRecord, VersionKey, TextKey, ExtraKey, version_key_of}
 use Rattle.pep508_marker.specs.Values.{text_key_of, other_key_of, version_key_or, key_of_text}
-use Rattle.pep508_marker_comparison.specs.Compared.{compared}
-use Rattle.pep508_marker_comparison.specs.SideReading.{AtEnd, Reading}
+use Rattle.pep508_comparison_parser.specs.Compared.{compared}
+use Rattle.pep508_comparison_parser.specs.SideReading.{AtEnd, Reading}
 use Rattle.pep508_diagram.specs.Question.{Question}
 use Rattle.pep508_expression.specs.Expressions.{has_points}
-use Rattle.pep508_marker_read.specs.Formula.{Says, LeftOut}
-use Rattle.pep508_marker_read.specs.MarkerReading.{Marker, Connective, And, Or, word_of, join_with, of_said}
-use Rattle.pep508_marker_read.specs.MarkerText.{IsSpaced, IsSideText, IsOperatorText, IsComparisonText}
-use Rattle.pep508_marker_read.specs.MarkerText.{IsEnclosed, AreJoined, join_all, IsJoined, IsEither}
-use Rattle.pep508_marker_read.specs.MarkerText.{IsFormulaText, IsMarkerText}
+use Rattle.pep508_marker_parser.specs.Formula.{Says, LeftOut}
+use Rattle.pep508_marker_parser.specs.MarkerReading.{Marker, Connective, And, Or, word_of, join_with, of_said}
+use Rattle.pep508_marker_parser.specs.MarkerText.{IsSpaced, IsSideText, IsOperatorText, IsComparisonText}
+use Rattle.pep508_marker_parser.specs.MarkerText.{IsEnclosed, AreJoined, join_all, IsJoined, IsEither}
+use Rattle.pep508_marker_parser.specs.MarkerText.{IsFormulaText, IsMarkerText}
 use Rattle.pep508_reading_back.specs.Lines.{IsPieceOf}
 use Rattle.pep508_reading_back.specs.Told.{questions_of, questions_of_term, AsksOf}
 use Rattle.pep508_reading_back.proofs.ToldCompared as compare

@@ -18,7 +18,7 @@ use Rattle.pep508_diagram.specs.Question.{version_rank}
 use Rattle.pep508_diagram.specs.Shortened.{post_beside, shortest, shortened, AsksOfShort}
 use Rattle.pep508_diagram.proofs.Questions.{questions_total, versions_order}
 use Rattle.pep508_diagram.proofs.Shortened.{shortened_tied, shortened_twice}
-use Rattle.pep508_marker_text.proofs.Spelled.{diagrams_spelled}
+use Rattle.pep508_marker_text_laws.proofs.Spelled.{diagrams_spelled}
 use Rattle.pep508_reading_back.specs.Diagrams.{StandsAt}
 use Rattle.pep508_reading_back.specs.Told.{AsksOf}
 use Rattle.pep508_reading_back.proofs.ToldReleases.{short_small}

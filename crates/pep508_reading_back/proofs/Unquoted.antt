@@ -8,14 +8,14 @@ use Rattle.pep508_diagram.specs.declared.variable.Flag.TheVariants.{In, Contains
 use Rattle.pep508_diagram.specs.Diagram.{Diagram, Leaf, Test}
 use Rattle.pep508_diagram.specs.Question.{Question, VersionBelow, TextBelow, IsSet, IsCanonical}
 use Rattle.pep508_diagram.specs.Shortened.{HasShortVersions}
-use Rattle.pep508_marker_text.specs.ReleaseBounds.{AsksOfReleases, HasReleasesAlone}
+use Rattle.pep508_marker_text_laws.specs.ReleaseBounds.{AsksOfReleases, HasReleasesAlone}
 use Rattle.pep508_requirement_ref.specs.declared.requirement_ref.RequirementRef.{RequirementRef}
 use Rattle.pep508_reading_back.specs.Diagrams.{AsksReadably, IsReadableDiagram}
 use Rattle.pep508_diagram.specs.Questions.{AllQuestions}
 use Rattle.pep508_reading_back.specs.ReadViews.{AsksNoUrl, ShowsRead}
 use Rattle.pep508_reading_back.proofs.ReadViews.{IsOfMarker}
 use Rattle.pep508_reading_back.proofs.WritableDiagrams.{written_marker}
-use Rattle.pep508_marker_text.specs.MarkerText.{marker_text}
+use Rattle.pep508_marker_text_laws.specs.MarkerText.{marker_text}
 use Rattle.pep508_reading_back.specs.Lines.{IsPieceOf}
 use Rattle.pep508_reading_back.specs.Told.{AsksOf, IsTold}
 use Rattle.pep508_reading_back.specs.Unquoted.{AsksUnquoted, AsksOfModernKey, IsPlainDiagram}

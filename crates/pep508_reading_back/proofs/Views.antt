@@ -6,12 +6,12 @@ use Rattle.pep508_diagram.specs.Question.{IsCanonical}
 use Rattle.pep508_error.specs.declared.error.Pep508Error.{Pep508Error}
 use Rattle.pep440_specifier.specs.Matching.{SpecifierRecord}
 use Rattle.pep440_specifier_list.specs.Lists.{IsByVersion}
-use Rattle.pep508_marker_read.specs.MarkerOutcome.{IsTreeOf}
+use Rattle.pep508_marker_parser.specs.MarkerOutcome.{IsTreeOf}
 use Rattle.pep508_reading_back.specs.Diagrams.{SaysDiagram}
 use Rattle.pep508_error.specs.declared.error.Pep508ErrorSource.{Pep508ErrorSource}
 use Rattle.pep508_error.specs.declared.error.Pep508ErrorSource.TheVariants as sources
-use Rattle.pep508_marker_read.specs.MarkerReading.{Marker}
-use Rattle.pep508_marker_text.specs.MarkerText.{marker_text}
+use Rattle.pep508_marker_parser.specs.MarkerReading.{Marker}
+use Rattle.pep508_marker_text_laws.specs.MarkerText.{marker_text}
 use Rattle.pep508_name.specs.Name.{name_of}
 use Rattle.pep508_requirement_text.specs.FrontReading.{Front, Source, front_reading}
 use Rattle.pep508_requirement_text.specs.FrontReading.Source.{Any, Specifiers, Url}

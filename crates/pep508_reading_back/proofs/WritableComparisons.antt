@@ -19,11 +19,11 @@ use Rattle.pep508_marker.specs.Expression.{string_text, expression_text}
 use Rattle.pep508_marker.specs.Keys.{version_key_name, text_key_written, modern, is_deprecated}
 use Rattle.pep508_marker.specs.Operators.{marker_operator_text, extra_operator_text, extra_operator}
 use Rattle.pep508_marker.specs.Values.{ExtraRecord, ExtraKey, Quoted, extra_text}
-use Rattle.pep508_marker_comparison.specs.Compared.{compared, extra_of, of_extra, warned_of_name}
-use Rattle.pep508_marker_comparison.specs.Compared.{extra_compared}
-use Rattle.pep508_marker_comparison.specs.SideReading.{ends_key}
-use Rattle.pep508_marker_read.specs.MarkerReading.{Marker}
-use Rattle.pep508_marker_read.specs.MarkerText.{IsBefore, IsComparisonText}
+use Rattle.pep508_comparison_parser.specs.Compared.{compared, extra_of, of_extra, warned_of_name}
+use Rattle.pep508_comparison_parser.specs.Compared.{extra_compared}
+use Rattle.pep508_comparison_parser.specs.SideReading.{ends_key}
+use Rattle.pep508_marker_parser.specs.MarkerReading.{Marker}
+use Rattle.pep508_marker_parser.specs.MarkerText.{IsBefore, IsComparisonText}
 use Rattle.pep508_reading_back.specs.Readable.{IsQuotable, IsReadable, warned_extra, marker_of}
 use Rattle.pep508_reading_back.specs.Writable.{as_written}
 use Rattle.pep508_reading_back.proofs.Comparisons.{written_as, extra_named, said_so, term_read, extra_points}

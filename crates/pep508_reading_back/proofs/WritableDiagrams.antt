@@ -15,16 +15,16 @@ use Rattle.pep508_marker.specs.Expression.{ExpressionRecord, Version, term_text,
 use Rattle.pep508_diagram.specs.Diagram.{Diagram, Leaf, Test}
 use Rattle.pep508_diagram.specs.Question.{Question, VersionBelow, TextBelow, IsSet, IsCanonical, flag_text}
 use Rattle.pep508_expression.specs.Expressions.{has_points}
-use Rattle.pep508_marker_read.specs.MarkerReading.{Marker}
-use Rattle.pep508_marker_read.specs.MarkerText.{IsComparisonText, IsMarkerText}
-use Rattle.pep508_marker_text.specs.Clauses.{clauses_of}
-use Rattle.pep508_marker_text.specs.MarkerText.{disjunction, clauses_text, marker_text}
-use Rattle.pep508_marker_text.specs.SameTerms.{same_term, opposite_term}
-use Rattle.pep508_marker_text.specs.Saying.{Clause}
-use Rattle.pep508_marker_text.specs.Simplified.{has_some}
-use Rattle.pep508_marker_text.proofs.Fitting.{AllFit, GoodQuestion, simplified_fit, walk_meets}
+use Rattle.pep508_marker_parser.specs.MarkerReading.{Marker}
+use Rattle.pep508_marker_parser.specs.MarkerText.{IsComparisonText, IsMarkerText}
+use Rattle.pep508_marker_text_laws.specs.Clauses.{clauses_of}
+use Rattle.pep508_marker_text_laws.specs.MarkerText.{disjunction, clauses_text, marker_text}
+use Rattle.pep508_marker_text_laws.specs.SameTerms.{same_term, opposite_term}
+use Rattle.pep508_marker_text_laws.specs.Saying.{Clause}
+use Rattle.pep508_marker_text_laws.specs.Simplified.{has_some}
+use Rattle.pep508_marker_text_laws.proofs.Fitting.{AllFit, GoodQuestion, simplified_fit, walk_meets}
 use Rattle.pep508_diagram.specs.Questions.{AllQuestions}
-use Rattle.pep508_marker_text.proofs.Where.{filter_all}
+use Rattle.pep508_marker_text_laws.proofs.Where.{filter_all}
 use Rattle.pep508_reading_back.specs.Readable.{IsQuotable, IsReadable, marker_of}
 use Rattle.pep508_reading_back.specs.Writable.{IsSayable, AsksWritably, IsWritableDiagram}
 use Rattle.pep508_reading_back.proofs.Clauses.{term_written}

@@ -17,15 +17,15 @@ use Rattle.pep508_diagram.specs.Question.{Question, VersionBelow, TextBelow, IsS
 use Rattle.pep508_diagram.specs.Question.{shares_variable, marker, AreOne, IsCanonical}
 use Rattle.pep508_diagram.proofs.Alike.{alike_itself, alike_back}
 use Rattle.pep508_diagram.proofs.Questions.{asks, versions_share, texts_share, mixed_apart}
-use Rattle.pep508_marker_text.specs.Clauses.{Part, same_part, group_clauses, grouped_clauses, versions_from}
-use Rattle.pep508_marker_text.specs.Clauses.{texts_from, walk_of, clauses_of}
-use Rattle.pep508_marker_text.specs.Groups.{firsts, standing, turning, points_where}
-use Rattle.pep508_marker_text.specs.SameDiagrams.{same_diagram}
-use Rattle.pep508_marker_text.specs.Saying.{Clause, Saying, set_clauses}
-use Rattle.pep508_marker_text.specs.Simplified.{has_some}
-use Rattle.pep508_marker_text.specs.Terms.{version_saying, text_saying, set_term, unset_term}
-use Rattle.pep508_marker_text.proofs.SameDiagrams.{same_are_one, same_itself}
-use Rattle.pep508_marker_text.proofs.Walks.{walk_diagram}
+use Rattle.pep508_marker_text_laws.specs.Clauses.{Part, same_part, group_clauses, grouped_clauses, versions_from}
+use Rattle.pep508_marker_text_laws.specs.Clauses.{texts_from, walk_of, clauses_of}
+use Rattle.pep508_marker_text_laws.specs.Groups.{firsts, standing, turning, points_where}
+use Rattle.pep508_marker_text_laws.specs.SameDiagrams.{same_diagram}
+use Rattle.pep508_marker_text_laws.specs.Saying.{Clause, Saying, set_clauses}
+use Rattle.pep508_marker_text_laws.specs.Simplified.{has_some}
+use Rattle.pep508_marker_text_laws.specs.Terms.{version_saying, text_saying, set_term, unset_term}
+use Rattle.pep508_marker_text_laws.proofs.SameDiagrams.{same_are_one, same_itself}
+use Rattle.pep508_marker_text_laws.proofs.Walks.{walk_diagram}
 use Rattle.pep508_reading_back.proofs.WritableSimplified.{IsSome, any_some}
 use Rattle.pep508_reading_back.proofs.WritableSets.{HasTerm, term_behind, term_in_front, followed_term}
 use Rattle.pep508_reading_back.proofs.WritableSets.{set_term_some, first_turn}

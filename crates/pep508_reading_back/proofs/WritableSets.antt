@@ -14,12 +14,12 @@ use Rattle.version_ranges.specs.Point.{Point, BelowAll, At, JustAbove}
 use Rattle.version_ranges.specs.Turns.{flips}
 use Rattle.pep508_marker.specs.Expression.{ExpressionRecord}
 use Rattle.pep508_diagram.specs.declared.branch.Branch.{Branch}
-use Rattle.pep508_marker_text.specs.Clauses.{followed_by}
-use Rattle.pep508_marker_text.specs.Groups.{turning, points_where}
-use Rattle.pep508_marker_text.specs.Saying.{Clause, Saying, left_out, exclusion, single, single_or_bounds}
-use Rattle.pep508_marker_text.specs.Saying.{interval_clause, one_or_intervals, set_clauses}
-use Rattle.pep508_marker_text.specs.Simplified.{has_some}
-use Rattle.pep508_marker_text.proofs.Removals.{second_holds}
+use Rattle.pep508_marker_text_laws.specs.Clauses.{followed_by}
+use Rattle.pep508_marker_text_laws.specs.Groups.{turning, points_where}
+use Rattle.pep508_marker_text_laws.specs.Saying.{Clause, Saying, left_out, exclusion, single, single_or_bounds}
+use Rattle.pep508_marker_text_laws.specs.Saying.{interval_clause, one_or_intervals, set_clauses}
+use Rattle.pep508_marker_text_laws.specs.Simplified.{has_some}
+use Rattle.pep508_marker_text_laws.proofs.Removals.{second_holds}
 use Rattle.pep508_reading_back.proofs.WritableSimplified.{IsSome}
 
 -- some clause has a comparison

@@ -6,8 +6,8 @@ use Rattle.std.proofs.lemmas.List.{append-nil}
 use Rattle.std.specs.List.{AllByRecursion, filter, list_any}
 use Rattle.version_ranges.proofs.Membership.{all_append}
 use Rattle.pep508_error.proofs.Tests.{and_parts}
-use Rattle.pep508_marker_text.specs.Simplified.{sifted, has_some, spares, is_needless, shortened_behind}
-use Rattle.pep508_marker_text.specs.Simplified.{is_covered, simplified}
+use Rattle.pep508_marker_text_laws.specs.Simplified.{sifted, has_some, spares, is_needless, shortened_behind}
+use Rattle.pep508_marker_text_laws.specs.Simplified.{is_covered, simplified}
 
 -- there are some
 abbrev pub IsSome : {A : Type 0} → List A → Type 0

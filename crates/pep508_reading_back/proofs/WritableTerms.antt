@@ -23,10 +23,10 @@ use Rattle.pep508_diagram.specs.declared.variable.Flag.TheVariants as flag
 use Rattle.pep508_diagram.specs.Question.{flag_text}
 use Rattle.pep508_expression.specs.Expressions.{has_points}
 use Rattle.pep508_error.proofs.Tests.{and_parts}
-use Rattle.pep508_marker_text.specs.Terms.{key_of_variable, two_numbers, is_minor_of, kept_where}
-use Rattle.pep508_marker_text.specs.Terms.{minor_between, version_term, version_saying, text_saying, set_term}
-use Rattle.pep508_marker_text.specs.Terms.{unset_term}
-use Rattle.pep508_marker_text.proofs.Fitting.{Fits, AllSayingsFit}
+use Rattle.pep508_marker_text_laws.specs.Terms.{key_of_variable, two_numbers, is_minor_of, kept_where}
+use Rattle.pep508_marker_text_laws.specs.Terms.{minor_between, version_term, version_saying, text_saying, set_term}
+use Rattle.pep508_marker_text_laws.specs.Terms.{unset_term}
+use Rattle.pep508_marker_text_laws.proofs.Fitting.{Fits, AllSayingsFit}
 use Rattle.pep508_reading_back.specs.Readable.{IsQuotable}
 use Rattle.pep508_reading_back.specs.Writable.{IsSayable, as_written}
 use Rattle.pep508_reading_back.proofs.Diagrams.{AreMinor, two_are, kept_is, release_readable}

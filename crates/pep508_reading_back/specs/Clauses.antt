@@ -2,11 +2,11 @@
 use Rattle.std.specs.Prelude.{◌≡◌, ℕ, ◌<◌, Bool, List, length}
 use Rattle.std.specs.List.{AllByRecursion}
 use Rattle.pep508_marker.specs.Expression.{ExpressionRecord}
-use Rattle.pep508_marker_read.specs.Formula.{formula_holds}
-use Rattle.pep508_marker_read.specs.MarkerReading.{Marker}
-use Rattle.pep508_marker_read.specs.MarkerText.{IsMarkerText}
-use Rattle.pep508_marker_text.specs.Saying.{Clause}
-use Rattle.pep508_marker_text.specs.Truth.{one_holds}
+use Rattle.pep508_marker_parser.specs.Formula.{formula_holds}
+use Rattle.pep508_marker_parser.specs.MarkerReading.{Marker}
+use Rattle.pep508_marker_parser.specs.MarkerText.{IsMarkerText}
+use Rattle.pep508_marker_text_laws.specs.Saying.{Clause}
+use Rattle.pep508_marker_text_laws.specs.Truth.{one_holds}
 use Rattle.pep508_reading_back.specs.Readable.{IsReadable}
 
 -- some comparisons, each of which a text can have

@@ -11,10 +11,10 @@ use Rattle.pep508_diagram.specs.declared.variable.Flag.TheVariants.{In, Contains
 use Rattle.pep508_diagram.specs.Diagram.{Diagram}
 use Rattle.pep508_diagram.specs.Question.{Question, VersionBelow, TextBelow, IsSet, Valuation, truth}
 use Rattle.pep508_expression.specs.Expressions.{expression_holds}
-use Rattle.pep508_marker_read.specs.Formula.{formula_holds}
-use Rattle.pep508_marker_read.specs.MarkerReading.{Marker}
-use Rattle.pep508_marker_read.specs.MarkerText.{IsMarkerText}
-use Rattle.pep508_marker_text.specs.ReleaseBounds.{IsPlainRelease}
+use Rattle.pep508_marker_parser.specs.Formula.{formula_holds}
+use Rattle.pep508_marker_parser.specs.MarkerReading.{Marker}
+use Rattle.pep508_marker_parser.specs.MarkerText.{IsMarkerText}
+use Rattle.pep508_marker_text_laws.specs.ReleaseBounds.{IsPlainRelease}
 use Rattle.pep508_diagram.specs.Questions.{AllQuestions}
 use Rattle.pep508_reading_back.specs.Readable.{IsQuotable}
 

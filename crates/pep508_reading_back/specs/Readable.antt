@@ -13,8 +13,8 @@ use Rattle.pep508_marker.specs.Expression.{ExpressionRecord, Version, VersionIn,
 use Rattle.pep508_marker.specs.Keys.{is_deprecated}
 use Rattle.pep508_marker.specs.Values.{ExtraRecord, Name, Arbitrary}
 use Rattle.pep508_expression.specs.Expressions.{has_points}
-use Rattle.pep508_marker_read.specs.Formula.{Says}
-use Rattle.pep508_marker_read.specs.MarkerReading.{Marker}
+use Rattle.pep508_marker_parser.specs.Formula.{Says}
+use Rattle.pep508_marker_parser.specs.MarkerReading.{Marker}
 
 -- no character of it is a single quote
 abbrev pub IsUnquoted : List ℕ → Type 0

@@ -18,7 +18,7 @@ use Rattle.pep508_diagram.specs.declared.variable.Flag.{Flag}
 use Rattle.pep508_diagram.specs.declared.variable.Flag.TheVariants as flag
 use Rattle.pep508_diagram.specs.Question.{Question, VersionBelow, TextBelow, IsSet}
 use Rattle.pep508_expression.specs.Expressions.{variable_of, extra_flag}
-use Rattle.pep508_marker_read.specs.Formula.{Formula, Says, LeftOut, Both, Either}
+use Rattle.pep508_marker_parser.specs.Formula.{Formula, Says, LeftOut, Both, Either}
 use Rattle.pep508_reading_back.specs.Diagrams.{StandsAt}
 
 -- ---- all questions that a comparison can have, by whatever operator

@@ -1,7 +1,7 @@
 -- Diagrams of which no text has a single quote, so that a text can have each of them between two.
 use Rattle.std.specs.Prelude.{◌≡◌, ◌≢◌, false}
 use Rattle.pep508_marker.specs.Keys.{is_deprecated}
-use Rattle.pep508_marker_text.specs.ReleaseBounds.{HasReleasesAlone}
+use Rattle.pep508_marker_text_laws.specs.ReleaseBounds.{HasReleasesAlone}
 use Rattle.pep508_diagram.specs.declared.variable.Flag.{Flag}
 use Rattle.pep508_diagram.specs.declared.variable.Flag.TheVariants.{In, Contains, Extra, Arbitrary}
 use Rattle.pep508_diagram.specs.Diagram.{Diagram, Leaf}

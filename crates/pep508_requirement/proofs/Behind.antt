@@ -6,9 +6,9 @@ use Rattle.std.proofs.lemmas.List.{append-nil}
 use Rattle.std.specs.Prelude.{Result}
 use Rattle.std.specs.Str.{skip_leading_whitespace}
 use Rattle.pep440_specifier.specs.SpecifierText.{AreSpaces}
-use Rattle.pep508_marker_read.specs.SideReading.{Refused, Malformed}
-use Rattle.pep508_marker_read.specs.MarkerReading.{Marker, marker_at}
-use Rattle.pep508_marker_read.specs.MarkerText.{IsMarkerText}
+use Rattle.pep508_marker_parser.specs.SideReading.{Refused, Malformed}
+use Rattle.pep508_marker_parser.specs.MarkerReading.{Marker, marker_at}
+use Rattle.pep508_marker_parser.specs.MarkerText.{IsMarkerText}
 use Rattle.pep508_error.proofs.Tests.{the_same}
 use Rattle.pep508_error.proofs.Spaces.{spaces_found, spaces_again, only_spaces}
 use Rattle.pep508_requirement.specs.MarkerBehind.{no_marker, marker_behind}

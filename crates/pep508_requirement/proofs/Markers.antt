@@ -12,10 +12,10 @@ use Rattle.pep508_tree.proofs.Diagrams.{diagram_top}
 use Rattle.pep508_error.specs.declared.refusal.Refusal.{Refusal}
 use Rattle.pep508_error.specs.declared.refusal.RefusalKind.{RefusalKind}
 use Rattle.pep508_error.specs.declared.refusal.RefusalKind.TheVariants as kinds
-use Rattle.pep508_marker_read.specs.SideReading.{Malformed}
-use Rattle.pep508_marker_read.specs.MarkerReading.{marker_at}
-use Rattle.pep508_marker_read.specs.Outcome.{Fits, Tells}
-use Rattle.pep508_marker_read.specs.MarkerOutcome.{IsTreeOf, ReadsMarker, SaysMarker}
+use Rattle.pep508_marker_parser.specs.SideReading.{Malformed}
+use Rattle.pep508_marker_parser.specs.MarkerReading.{marker_at}
+use Rattle.pep508_marker_parser.specs.Outcome.{Fits, Tells}
+use Rattle.pep508_marker_parser.specs.MarkerOutcome.{IsTreeOf, ReadsMarker, SaysMarker}
 use Rattle.pep508_requirement_text.specs.FrontOutcome.{IsPlain}
 use Rattle.pep508_requirement.specs.MarkerBehind.{no_marker, marker_behind}
 

@@ -12,16 +12,16 @@ use Rattle.pep508_error.specs.declared.error.Pep508Error.{Pep508Error}
 use Rattle.pep508_error.specs.declared.error.Pep508ErrorSource.{Pep508ErrorSource}
 use Rattle.pep508_error.specs.declared.error.Pep508ErrorSource.TheVariants as sources
 use Rattle.pep508_error.specs.Errors.{Fault, told_by, said_by, told_error, told_refusal}
-use Rattle.pep508_marker_read.specs.MarkerReading.{Marker}
-use Rattle.pep508_marker_read.specs.SideReading as marker_reading
-use Rattle.pep508_marker_read.specs.Outcome as marker_outcome
+use Rattle.pep508_marker_parser.specs.MarkerReading.{Marker}
+use Rattle.pep508_marker_parser.specs.SideReading as marker_reading
+use Rattle.pep508_marker_parser.specs.Outcome as marker_outcome
 use Rattle.pep508_requirement_text.specs.FrontReading.{Front, Refused, front_reading}
 use Rattle.pep508_requirement_text.specs.FrontReading as reading
 use Rattle.pep508_requirement_text.specs.FrontOutcome.{Tells}
 use Rattle.pep508_requirement_text.specs.FrontFound.{IsSource, IsUrlIn}
-use Rattle.pep508_requirement_text.specs.declared.source.Source.{Source}
-use Rattle.pep508_requirement_text.specs.declared.source.Source.TheVariants as read
-use Rattle.pep508_requirement_text.specs.declared.source.UrlPiece.{UrlPiece}
+use Rattle.pep508_requirement_text.specs.declared.specifiers_or_url.Source.{Source}
+use Rattle.pep508_requirement_text.specs.declared.specifiers_or_url.Source.TheVariants as read
+use Rattle.pep508_requirement_text.specs.declared.specifiers_or_url.UrlPiece.{UrlPiece}
 use Rattle.pep508_requirement.specs.declared.version_or_url.VersionOrUrl.{VersionOrUrl}
 use Rattle.pep508_requirement.specs.declared.version_or_url.VersionOrUrl.TheVariants as asked
 use Rattle.pep508_requirement.specs.MarkerBehind.{marker_behind}

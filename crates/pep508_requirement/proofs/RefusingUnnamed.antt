@@ -10,9 +10,9 @@ use Rattle.pep508_error.specs.declared.error.Pep508Error.{Pep508Error}
 use Rattle.pep508_error.specs.declared.error.Pep508ErrorSource.{Pep508ErrorSource}
 use Rattle.pep508_error.specs.declared.error.Pep508ErrorSource.TheVariants as sources
 use Rattle.pep508_error.specs.Errors.{Fault, fault_at, told_by, told_error, told_refusal}
-use Rattle.pep508_marker_read.specs.MarkerReading.{Marker}
-use Rattle.pep508_marker_read.specs.SideReading as marker_reading
-use Rattle.pep508_marker_read.specs.Outcome as marker_outcome
+use Rattle.pep508_marker_parser.specs.MarkerReading.{Marker}
+use Rattle.pep508_marker_parser.specs.SideReading as marker_reading
+use Rattle.pep508_marker_parser.specs.Outcome as marker_outcome
 use Rattle.pep508_requirement_text.specs.FrontReading.Refused.{Malformed}
 use Rattle.pep508_requirement_text.specs.FrontOutcome.{IsPlain}
 use Rattle.pep508_requirement_text.specs.UnnamedReading.{UnnamedFront, IsUnnamedReading}

@@ -8,8 +8,8 @@ use Rattle.pep508_error.specs.declared.error.Pep508ErrorSource.{Pep508ErrorSourc
 use Rattle.pep508_error.specs.declared.error.Pep508ErrorSource.TheVariants as sources
 use Rattle.pep508_error.specs.Errors.{told_by}
 use Rattle.pep508_formula.specs.Postfix.{formula_of}
-use Rattle.pep508_marker_read.specs.MarkerOutcome.{IsTreeOf}
-use Rattle.pep508_requirement.specs.declared.marked.MarkedRequirement.{MarkedRequirement}
+use Rattle.pep508_marker_parser.specs.MarkerOutcome.{IsTreeOf}
+use Rattle.pep508_requirement.specs.declared.marked_requirement.MarkedRequirement.{MarkedRequirement}
 use Rattle.pep508_requirement.specs.declared.requirement.Requirement.{Requirement}
 use Rattle.pep508_requirement.specs.MarkedReading.{IsReadMarked}
 use Rattle.pep508_requirement.specs.RequirementReading.{IsReadUpTo, IsRead, IsRefused, RefusedBy}

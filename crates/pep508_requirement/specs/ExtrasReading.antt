@@ -7,7 +7,7 @@ use Rattle.pep508_error.specs.declared.error.Pep508ErrorSource.TheVariants as so
 use Rattle.pep508_error.specs.Errors.{told_error}
 use Rattle.pep508_requirement_text.specs.FrontReading.{extras_at}
 use Rattle.pep508_requirement_text.specs.FrontReading.Refused.{Malformed}
-use Rattle.pep508_requirement.specs.declared.extras.Extras.{Extras}
+use Rattle.pep508_requirement.specs.declared.extra_list.Extras.{Extras}
 
 -- why a text begins with no extras, by its error
 abbrev pub ExtrasRefusedBy : {T E : Type 0} → List ℕ → Pep508ErrorSource T E → Type 0

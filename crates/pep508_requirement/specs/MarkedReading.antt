@@ -3,11 +3,11 @@ use Rattle.std.specs.Prelude.{◌≡◌, ℕ, Bool, List, Result, Ok, Err}
 use Rattle.pep508_url.specs.Vars.{Variables}
 use Rattle.pep508_error.specs.declared.error.Pep508Error.{Pep508Error}
 use Rattle.pep508_formula.specs.Postfix.{formula_of}
-use Rattle.pep508_marker_read.specs.MarkerReading.{Marker}
+use Rattle.pep508_marker_parser.specs.MarkerReading.{Marker}
 use Rattle.pep508_requirement_text.specs.FrontReading.{Front}
 use Rattle.pep508_requirement.specs.MarkerBehind.{marker_behind}
 use Rattle.pep508_requirement.specs.RequirementReading.{IsReadUpTo, IsRefused}
-use Rattle.pep508_requirement.specs.declared.marked.MarkedRequirement.{MarkedRequirement}
+use Rattle.pep508_requirement.specs.declared.marked_requirement.MarkedRequirement.{MarkedRequirement}
 
 -- the text is read as this requirement, with the formula of its marker
 pub record IsReadMarked {T E : Type 0} (Reads : List ℕ → Result T E → Type 0) (text : List ℕ)

@@ -2,10 +2,10 @@
 use Rattle.std.specs.Prelude.{◌≡◌, ℕ, ◌==◌, if◌then◌else◌, List, [], ◌∷◌, Result, Ok, Err}
 use Rattle.std.specs.Str.{skip_leading_whitespace}
 use Rattle.pep508_marker.specs.Warnings.{Warning}
-use Rattle.pep508_marker_read.specs.Formula.{LeftOut}
-use Rattle.pep508_marker_read.specs.SideReading.{Refused, Malformed}
-use Rattle.pep508_marker_read.specs.MarkerReading.{Marker, marker_at}
-use Rattle.pep508_marker_read.specs.Outcome.{IsWarned}
+use Rattle.pep508_marker_parser.specs.Formula.{LeftOut}
+use Rattle.pep508_marker_parser.specs.SideReading.{Refused, Malformed}
+use Rattle.pep508_marker_parser.specs.MarkerReading.{Marker, marker_at}
+use Rattle.pep508_marker_parser.specs.Outcome.{IsWarned}
 use Rattle.pep508_requirement_text.specs.FrontReading.{Front, front_reading}
 use Rattle.pep508_requirement_text.specs.UnnamedReading.{UnnamedFront, IsUnnamedReading}
 

@@ -4,8 +4,8 @@ use Rattle.pep508_error.specs.declared.error.Pep508Error.{Pep508Error}
 use Rattle.pep508_error.specs.declared.error.Pep508ErrorSource.{Pep508ErrorSource}
 use Rattle.pep508_error.specs.declared.error.Pep508ErrorSource.TheVariants as sources
 use Rattle.pep508_error.specs.Errors.{told_error}
-use Rattle.pep508_requirement_text.specs.declared.source.Source.{Source}
-use Rattle.pep508_requirement_text.specs.declared.source.Source.TheVariants as read
+use Rattle.pep508_requirement_text.specs.declared.specifiers_or_url.Source.{Source}
+use Rattle.pep508_requirement_text.specs.declared.specifiers_or_url.Source.TheVariants as read
 use Rattle.pep508_requirement.specs.declared.version_or_url.VersionOrUrl.{VersionOrUrl}
 use Rattle.pep508_requirement.specs.declared.version_or_url.VersionOrUrl.TheVariants as asked
 

@@ -5,8 +5,8 @@ use Rattle.pep508_error.specs.declared.error.Pep508ErrorSource.{Pep508ErrorSourc
 use Rattle.pep508_error.specs.declared.error.Pep508ErrorSource.TheVariants.{Memory, String, UrlError}
 use Rattle.pep508_error.specs.declared.error.Pep508ErrorSource.TheVariants.{UnsupportedRequirement}
 use Rattle.pep508_error.specs.declared.error.Pep508ErrorSource.TheVariants.{NumberAtEnd}
-use Rattle.pep508_marker_read.specs.MarkerReading.{Marker}
-use Rattle.pep508_marker_read.specs.MarkerText.{IsMarkerText}
+use Rattle.pep508_marker_parser.specs.MarkerReading.{Marker}
+use Rattle.pep508_marker_parser.specs.MarkerText.{IsMarkerText}
 use Rattle.pep508_requirement_text.specs.FrontReading.{Front}
 use Rattle.pep508_requirement_text.specs.FrontText.{IsFrontText}
 use Rattle.pep508_requirement_text.specs.UnnamedReading.{UnnamedFront}

@@ -4,8 +4,8 @@ ghost use Rattle.std.specs.Prelude.{◌≡◌, ℕ, List, Option, Ok};
 ghost use Rattle.std.specs.Str.{skip_leading_whitespace};
 ghost use Rattle.pep508_url.specs.Vars.{Variables};
 ghost use Rattle.pep508_tree.specs.Meaning.{NodeRecord};
-ghost use Rattle.pep508_marker_read.specs.MarkerReading.{Marker};
-ghost use Rattle.pep508_marker_read.specs.MarkerOutcome.{IsTreeOf};
+ghost use Rattle.pep508_marker_parser.specs.MarkerReading.{Marker};
+ghost use Rattle.pep508_marker_parser.specs.MarkerOutcome.{IsTreeOf};
 ghost use Rattle.pep508_requirement_text.specs.FrontReading.{Front, front_reading};
 ghost use Rattle.pep508_requirement_text.specs.UnnamedReading.{UnnamedFront, IsUnnamedReading};
 ghost use Rattle.pep508_requirement.specs.MarkerBehind.{marker_behind};
@@ -15,7 +15,7 @@ ghost use Rattle.pep508_requirement.specs.UnnamedUrls.{ReadsUnnamed};
 ghost use Rattle.pep508_requirement.specs.UnnamedRequirementReading.{ReadsGiven, IsUnnamedRead};
 ghost use Rattle.pep508_requirement.specs.UnnamedRequirementReading.{UnnamedRefusedBy};
 
-use pep508_marker_read::laws::{a_read_marker_is_written, a_written_marker_is_read};
+use pep508_marker_parser::laws::{a_read_marker_is_written, a_written_marker_is_read};
 use pep508_requirement_text::laws::{
     a_read_front_is_written, a_read_unnamed_front_is_written, a_text_has_one_unnamed_front,
     a_written_front_is_read, a_written_unnamed_front_is_read,

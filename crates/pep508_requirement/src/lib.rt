@@ -3,20 +3,20 @@
 #![tactic(auto)]
 
 mod evaluating;
+mod extra_list;
 mod extra_marker;
-mod extras;
 pub mod laws;
 mod left;
-mod marked;
-mod reading;
+mod marked_requirement;
+mod reading_requirement;
 mod requirement;
 mod unnamed;
 mod unnamed_reading;
 mod unnamed_url;
 mod version_or_url;
 
-pub use extras::Extras;
-pub use marked::MarkedRequirement;
+pub use extra_list::Extras;
+pub use marked_requirement::MarkedRequirement;
 pub use pep508_name::RequirementOrigin;
 pub use requirement::Requirement;
 pub use unnamed::UnnamedRequirement;

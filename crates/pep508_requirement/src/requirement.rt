@@ -5,7 +5,7 @@ ghost use Rattle.pep508_name.specs.Origin.{origin_of};
 ghost use Rattle.pep508_requirement.specs.Requirements.{without_url, IsCopy};
 
 use crate::VersionOrUrl;
-use crate::extras::copy_names;
+use crate::extra_list::copy_names;
 use pep508_name::{ExtraName, PackageName, RequirementOrigin};
 use pep508_tree::MarkerTree;
 use pep508_url::{Pep508Url, VerbatimUrl};

@@ -3,7 +3,7 @@
 ghost use Rattle.std.specs.Prelude.{◌≡◌, Some, IfOk};
 ghost use Rattle.pep508_requirement.specs.Requirements.{IsUnnamedCopy};
 
-use crate::extras::copy_names;
+use crate::extra_list::copy_names;
 use crate::requirement::copy_origin;
 use pep508_name::{ExtraName, RequirementOrigin};
 use pep508_tree::MarkerTree;

@@ -2,8 +2,8 @@
 use Rattle.std.proofs.Common.{◌≡◌, ℕ, List, Option, option_map, ap, ap₂, ◌∙◌}
 use Rattle.pep508_diagram.specs.Question.{IsCanonical}
 use Rattle.pep508_diagram.specs.Shortened.{HasShortVersions}
-use Rattle.pep508_marker_text.proofs.Spelled.{one_spelling}
-use Rattle.pep508_marker_text.specs.MarkerText.{marker_text}
+use Rattle.pep508_marker_text_laws.proofs.Spelled.{one_spelling}
+use Rattle.pep508_marker_text_laws.specs.MarkerText.{marker_text}
 use Rattle.pep508_requirement_text.specs.FrontReading.{Source}
 use Rattle.pep508_requirement_ref.specs.RequirementPrint.{requirement_text}
 use Rattle.pep508_requirement_ref.specs.Views.{SayTheSame, printed, source_of}

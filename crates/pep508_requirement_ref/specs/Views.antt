@@ -6,7 +6,7 @@ use Rattle.pep508_tree.specs.Meaning.{NodeRecord}
 use Rattle.pep508_tree_ref.specs.declared.tree_ref.MarkerTreeRef.{MarkerTreeRef}
 use Rattle.pep508_tree_ref.specs.Lent.{tree_in}
 use Rattle.pep508_tree_ref.specs.TreeIn.{diagram_in}
-use Rattle.pep508_marker_text.specs.MarkerText.{marker_text}
+use Rattle.pep508_marker_text_laws.specs.MarkerText.{marker_text}
 use Rattle.pep508_requirement_text.specs.FrontReading.{Front, Source}
 use Rattle.pep508_requirement_text.specs.FrontReading.Source.{Any, Specifiers, Url}
 use Rattle.pep508_requirement.specs.declared.requirement.Requirement.{Requirement}

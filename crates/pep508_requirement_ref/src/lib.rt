@@ -2,7 +2,7 @@
 #![tactic(auto)]
 
 pub mod laws;
-mod parts;
+mod requirement_parts;
 mod requirement_ref;
 mod unnamed_ref;
 

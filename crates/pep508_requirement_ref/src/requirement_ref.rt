@@ -15,7 +15,7 @@ ghost use Rattle.pep508_tree_ref.specs.Lent.{tree_in};
 ghost use Rattle.pep508_tree_ref.specs.TreeIn.{diagram_in};
 ghost use Rattle.pep508_requirement_ref.specs.Views.{IsViewOf, printed};
 
-use crate::parts::{ExtrasPart, MarkerPart, SourcePart};
+use crate::requirement_parts::{ExtrasPart, MarkerPart, SourcePart};
 use pep508_name::{ExtraName, PackageName, RequirementOrigin};
 use pep508_requirement::{Requirement, VersionOrUrl};
 use pep508_tree::Interner;

@@ -6,7 +6,7 @@ ghost use Rattle.serde_json.specs.Find.{as_str};
 ghost use Rattle.pep508_tree.specs.Meaning.{IsTree};
 ghost use Rattle.pep508_requirement_ref.specs.Views.{IsUnnamedViewOf, printed_unnamed};
 
-use crate::parts::{ExtrasPart, MarkerPart};
+use crate::requirement_parts::{ExtrasPart, MarkerPart};
 use pep508_name::ExtraName;
 use pep508_requirement::UnnamedRequirement;
 use pep508_tree::Interner;

@@ -18,9 +18,9 @@ use Rattle.pep440_specifier_list.specs.ListReading.{ListFault, ListReading, faul
 use Rattle.pep440_specifier_list.specs.ListReading.{with_first, pieces_reading, line_reading, list_reading}
 use Rattle.pep440_specifier_list.specs.ListReading.{told_list, TellsOrMemory, pieces_of}
 use Rattle.pep440_specifier_list.specs.declared.refused_piece.RefusedPiece.{RefusedPiece}
-use Rattle.pep440_specifier_list.specs.declared.parse_error.VersionSpecifiersParseError.{VersionSpecifiersParseError}
-use Rattle.pep440_specifier_list.specs.declared.parse_error.VersionSpecifiersParseError.TheVariants.{Memory}
-use Rattle.pep440_specifier_list.specs.declared.parse_error.VersionSpecifiersParseError.TheVariants.{Specifier}
+use Rattle.pep440_specifier_list.specs.declared.error.VersionSpecifiersParseError.{VersionSpecifiersParseError}
+use Rattle.pep440_specifier_list.specs.declared.error.VersionSpecifiersParseError.TheVariants.{Memory}
+use Rattle.pep440_specifier_list.specs.declared.error.VersionSpecifiersParseError.TheVariants.{Specifier}
 use Rattle.std.specs.Str.Pattern.{HasCharAt}
 use Rattle.pep508_url.specs.Vars.{Variables}
 use Rattle.pep508_error.specs.declared.cursor.Cursor.{Cursor}

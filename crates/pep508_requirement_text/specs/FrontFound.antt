@@ -12,8 +12,8 @@ use Rattle.pep508_requirement_text.specs.FrontReading.{enclosed}
 use Rattle.pep508_requirement_text.specs.FrontReading.Source.{Any, Specifiers, Url}
 use Rattle.pep508_requirement_text.specs.FrontOutcome.{Tells}
 use Rattle.pep508_error.specs.Cursors.{behind}
-use Rattle.pep508_requirement_text.specs.declared.source.Source.{Source}
-use Rattle.pep508_requirement_text.specs.declared.source.Source.TheVariants as found
+use Rattle.pep508_requirement_text.specs.declared.specifiers_or_url.Source.{Source}
+use Rattle.pep508_requirement_text.specs.declared.specifiers_or_url.Source.TheVariants as found
 use Rattle.pep508_requirement_text.specs.declared.front.Front.{Front}
 
 -- the source is that of the text: specifiers, sorted by version, or the text of a URL

@@ -7,7 +7,7 @@ use Rattle.pep508_requirement_text.specs.FrontReading.Refused.{Malformed}
 use Rattle.pep508_requirement_text.specs.FrontOutcome.{IsPlain}
 use Rattle.pep508_error.specs.Cursors.{behind}
 use Rattle.pep508_requirement_text.specs.UnnamedReading.{UnnamedFront, IsUnnamedReading}
-use Rattle.pep508_requirement_text.specs.declared.unnamed.Unnamed.{Unnamed}
+use Rattle.pep508_requirement_text.specs.declared.unnamed_front.Unnamed.{Unnamed}
 
 -- a front as contracts see it
 abbrev pub seen : Unnamed → UnnamedFront

@@ -18,12 +18,12 @@ ghost use Rattle.pep508_requirement_text.specs.FrontSpans.{Shows, IfTold, ShowsS
 ghost use Rattle.pep508_requirement_text.specs.FrontFound.{ReadsFront, ReadsAs, IsSource, IsUrlIn};
 
 use crate::archive::is_archive;
-use crate::extras::read_extras;
 use crate::list::{read_enclosed, read_open};
 use crate::look::looks_unnamed;
 use crate::message::{plain, unsupported};
 use crate::name::{package_name, read_name};
-use crate::source::Source;
+use crate::reading_extras::read_extras;
+use crate::specifiers_or_url::Source;
 use crate::url_cut::cut_url;
 use pep508_error::{Cursor, Refusal, Space};
 use pep508_name::{ExtraName, PackageName};

@@ -3,7 +3,6 @@
 #![tactic(auto)]
 
 mod archive;
-mod extras;
 mod front;
 pub mod laws;
 mod list;
@@ -11,15 +10,16 @@ mod look;
 mod message;
 mod name;
 mod name_end;
-mod source;
-mod unnamed;
+mod reading_extras;
+mod specifiers_or_url;
+mod unnamed_front;
 mod url_cut;
 mod url_end;
 
 pub use archive::is_archive;
-pub use extras::read_extras;
 pub use front::{Front, read_front};
 pub use look::looks_unnamed;
-pub use source::{Source, UrlPiece};
-pub use unnamed::{Unnamed, read_unnamed};
+pub use reading_extras::read_extras;
+pub use specifiers_or_url::{Source, UrlPiece};
+pub use unnamed_front::{Unnamed, read_unnamed};
 pub use url_end::split_url;

@@ -13,7 +13,7 @@ ghost use Rattle.pep508_requirement_text.specs.FrontSpans.{Shows, IfTold, ShowsP
 ghost use Rattle.pep508_error.specs.Refusals.{StaysIn, IsOf};
 
 use crate::message::plain;
-use crate::source::Source;
+use crate::specifiers_or_url::Source;
 use crate::url_end::split_blanks;
 use pep440_specifier::VersionSpecifierParseError;
 use pep440_specifier_list::{RefusedPiece, VersionSpecifiers, VersionSpecifiersParseError};

@@ -5,7 +5,7 @@ ghost use Rattle.std.specs.Str.{chars, IsUtf8};
 ghost use Rattle.pep508_error.specs.Cursors.{IsBehind, behind, IsAt};
 ghost use Rattle.pep508_requirement_text.specs.UrlEnds.{url_split};
 
-use crate::source::UrlPiece;
+use crate::specifiers_or_url::UrlPiece;
 use crate::url_end::split_url;
 use pep508_error::Cursor;
 

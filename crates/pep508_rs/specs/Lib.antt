@@ -55,34 +55,34 @@ pub use Rattle.pep508_simplification.specs.Parts
 pub use Rattle.pep508_simplification.specs.Named
 pub use Rattle.pep508_simplification.specs.Within
 pub use Rattle.pep508_simplification.specs.Narrowed
-pub use Rattle.pep508_marker_text.specs.Groups
-pub use Rattle.pep508_marker_text.specs.Saying
-pub use Rattle.pep508_marker_text.specs.Terms
-pub use Rattle.pep508_marker_text.specs.SameDiagrams
-pub use Rattle.pep508_marker_text.specs.Clauses
-pub use Rattle.pep508_marker_text.specs.Simplified as SimplifiedClauses
-pub use Rattle.pep508_marker_text.specs.SameTerms
-pub use Rattle.pep508_marker_text.specs.ReleaseBounds
-pub use Rattle.pep508_marker_text.specs.Truth
-pub use Rattle.pep508_marker_text.specs.Raisable
-pub use Rattle.pep508_marker_text.specs.MarkerText as MarkerPrint
-pub use Rattle.pep508_marker_dnf.specs.Said
-pub use Rattle.pep508_marker_dnf.specs.TopExtra
+pub use Rattle.pep508_marker_text_laws.specs.Groups
+pub use Rattle.pep508_marker_text_laws.specs.Saying
+pub use Rattle.pep508_marker_text_laws.specs.Terms
+pub use Rattle.pep508_marker_text_laws.specs.SameDiagrams
+pub use Rattle.pep508_marker_text_laws.specs.Clauses
+pub use Rattle.pep508_marker_text_laws.specs.Simplified as SimplifiedClauses
+pub use Rattle.pep508_marker_text_laws.specs.SameTerms
+pub use Rattle.pep508_marker_text_laws.specs.ReleaseBounds
+pub use Rattle.pep508_marker_text_laws.specs.Truth
+pub use Rattle.pep508_marker_text_laws.specs.Raisable
+pub use Rattle.pep508_marker_text_laws.specs.MarkerText as MarkerPrint
+pub use Rattle.pep508_marker_display.specs.Said
+pub use Rattle.pep508_marker_display.specs.TopExtra
 pub use Rattle.pep508_tree_ref.specs.TreeOrder
 pub use Rattle.pep508_tree_ref.specs.TreeIn
 pub use Rattle.pep508_tree_ref.specs.TreeOrderLaws
 pub use Rattle.pep508_tree_ref.specs.TreeText
 pub use Rattle.pep508_tree_ref.specs.Lent
-pub use Rattle.pep508_marker_comparison.specs.Compared
-pub use Rattle.pep508_marker_comparison.specs.SideReading
-pub use Rattle.pep508_marker_comparison.specs.Notices
-pub use Rattle.pep508_marker_comparison.specs.Outcome
-pub use Rattle.pep508_marker_read.specs.Formula
-pub use Rattle.pep508_marker_read.specs.MarkerReading
-pub use Rattle.pep508_marker_read.specs.MarkerText
-pub use Rattle.pep508_marker_read.specs.MarkerOutcome
-pub use Rattle.pep508_marker_read.specs.TreeReading
-pub use Rattle.pep508_marker_read.specs.TextOutcome
+pub use Rattle.pep508_comparison_parser.specs.Compared
+pub use Rattle.pep508_comparison_parser.specs.SideReading
+pub use Rattle.pep508_comparison_parser.specs.Notices
+pub use Rattle.pep508_comparison_parser.specs.Outcome
+pub use Rattle.pep508_marker_parser.specs.Formula
+pub use Rattle.pep508_marker_parser.specs.MarkerReading
+pub use Rattle.pep508_marker_parser.specs.MarkerText
+pub use Rattle.pep508_marker_parser.specs.MarkerOutcome
+pub use Rattle.pep508_marker_parser.specs.TreeReading
+pub use Rattle.pep508_marker_parser.specs.TextOutcome
 pub use Rattle.pep508_requirement_text.specs.Archives
 pub use Rattle.pep508_requirement_text.specs.Unnamed
 pub use Rattle.pep508_requirement_text.specs.UrlEnds

@@ -23,6 +23,7 @@
 pub mod laws;
 
 pub use pep440_rs;
+pub use pep508_comparison_parser::{parse_expression, parse_expression_reporter};
 pub use pep508_disjointness::MarkerTreeDisjointness;
 pub use pep508_environment::{
     EnvironmentBuildError, EnvironmentError, EnvironmentMember, MarkerEnvironment,
@@ -38,11 +39,10 @@ pub use pep508_marker::{
     MarkerValueExtra, MarkerValueString, MarkerValueVersion, MarkerWarningKind, Reporter, Silent,
     TracingReporter,
 };
-pub use pep508_marker_comparison::{parse_expression, parse_expression_reporter};
-pub use pep508_marker_contents::{MarkerTreeContents, MarkerTreeWithContents, ser};
-pub use pep508_marker_dnf::MarkerTreeText;
+pub use pep508_marker_display::MarkerTreeText;
 pub use pep508_marker_key::MarkerTreeKey;
-pub use pep508_marker_read::{MarkerTreeReading, parse_formula, tree_of};
+pub use pep508_marker_parser::{MarkerTreeReading, parse_formula, tree_of};
+pub use pep508_marker_serde::{MarkerTreeContents, MarkerTreeWithContents, ser};
 pub use pep508_name::{ExtraName, InvalidNameError, PackageName, RequirementOrigin};
 pub use pep508_questions::{Asked, MarkerTreeQuestions};
 pub use pep508_requirement::{

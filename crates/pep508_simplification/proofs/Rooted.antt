@@ -51,3 +51,6 @@ module _ (turns : Bool) (key : MarkerValueString) (first head : Tree) (later ite
   pub known_texts : (nodes : List NodeRecord) (tree : Tree) →
       IsRoot nodes tree (signed turns (Texts key first later)) → IsRoot nodes tree (Texts key head items)
   known_texts nodes tree root = subst (IsRoot nodes tree) same_texts root
+
+-- What is copied of the edges of a root, and what is known of them.
+pub ruleset root_rules = (copy_versions, copy_texts, known_versions, known_texts)

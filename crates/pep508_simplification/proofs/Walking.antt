@@ -11,7 +11,7 @@ use Rattle.std.specs.Cmp.{nat_cmp_is}
 use Rattle.std.specs.List.{AllByRecursion}
 use Rattle.std.specs.Ordering.{is_eq, nat_cmp}
 use Rattle.std.specs.Prelude.{MatchOption}
-use Rattle.pep508_simplification.specs.declared.walk.Pending.{Pending}
+use Rattle.pep508_simplification.specs.declared.extras_walk.Pending.{Pending}
 use Rattle.pep508_tree.specs.Tree.{Tree}
 use Rattle.pep508_tree.specs.Meaning.{NodeRecord, IsTree, Extends}
 use Rattle.pep508_tree.specs.Nodes.{Above, chosen, no_node, node_at, node_place, first_place}

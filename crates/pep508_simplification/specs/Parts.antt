@@ -1,8 +1,8 @@
 -- The root of a tree, as the copy that is changed and made a tree again.
 use Rattle.std.specs.Prelude.{◌≡◌, ℕ, Bool, false, cond, List, [], Option, Some, None, MatchOption}
 use Rattle.pep508_diagram.specs.declared.branch.Branch.{Branch}
-use Rattle.pep508_simplification.specs.declared.root.Root.{Root}
-use Rattle.pep508_simplification.specs.declared.root.Root.TheVariants as root
+use Rattle.pep508_simplification.specs.declared.root_copy.Root.{Root}
+use Rattle.pep508_simplification.specs.declared.root_copy.Root.TheVariants as root
 use Rattle.pep508_tree.specs.Tree.{Tree}
 use Rattle.pep508_tree.specs.Meaning.{NodeRecord, Versions, Texts, Flagged}
 use Rattle.pep508_tree.specs.Nodes.{Made, turned}

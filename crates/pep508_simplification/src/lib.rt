@@ -4,11 +4,11 @@
 
 mod bounds;
 mod complexified;
+mod extras_walk;
 mod named;
 mod narrowed;
-mod root;
+mod root_copy;
 mod simplification;
-mod walk;
 mod within;
 
 pub use simplification::MarkerTreeSimplification;

@@ -7,8 +7,8 @@ ghost use Rattle.pep508_simplification.specs.Simplified.{is_listed, is_named, wi
 ghost use Rattle.pep508_simplification.specs.Parts.{record_of, is_root_named};
 ghost use Rattle.pep508_simplification.specs.Named.{AnswersBy, IsNamed, IsAsked};
 
-use crate::root::{Root, copy_of_root};
-use crate::walk::walked;
+use crate::extras_walk::walked;
+use crate::root_copy::{Root, copy_of_root};
 use pep508_diagram::Flag;
 use pep508_name::ExtraName;
 use pep508_tree::{Interner, MarkerTree};

@@ -15,7 +15,7 @@ ghost use Rattle.pep508_simplification.specs.Simplified.{between, IsSimplified};
 ghost use Rattle.pep508_simplification.specs.Narrowed.{python_of, asks_python, asks_implementation, cut};
 ghost use Rattle.pep508_simplification.specs.Narrowed.{implementation_place, IsSimpler, AreRecalled};
 
-use crate::root::copy_of_root;
+use crate::root_copy::copy_of_root;
 use crate::within::{behind, copy_up_to, hold_some};
 use pep440_version::Version;
 use pep508_diagram::{Branch, VersionVariable};

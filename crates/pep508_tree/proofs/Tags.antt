@@ -10,8 +10,8 @@ use Rattle.version_ranges.specs.declared.boundary.Boundary.TheVariants as bounda
 use Rattle.version_ranges.specs.Boundaries.{boundary_cmp}
 use Rattle.pep508_diagram.specs.declared.branch.Branch.{Branch}
 use Rattle.pep508_diagram.proofs.Places.{not_less, texts_same, equal_from}
-use Rattle.pep508_tags.specs.Tags.{mixed, text_tag, version_tag}
-use Rattle.pep508_tags.proofs.Tags.{equal_versions}
+use Rattle.pep508_node_hash.specs.Tags.{mixed, text_tag, version_tag}
+use Rattle.pep508_node_hash.proofs.Tags.{equal_versions}
 use Rattle.pep508_tree.specs.Tree.{Tree}
 use Rattle.pep508_tree.specs.Meaning.{NodeRecord}
 use Rattle.pep508_tree.specs.Nodes.{node_rank, node_text, node_place, version_branches, text_branches}

@@ -12,7 +12,7 @@ use Rattle.std.specs.Map.{lookup}
 use Rattle.std.specs.Ordering.{is_eq, nat_cmp, ordering_then}
 use Rattle.version_ranges.specs.HashingLaws.{then_equal}
 use Rattle.pep508_tree.specs.declared.tree_pair.TreePair.{TreePair}
-use Rattle.pep508_tree.specs.declared.walk.Pending.{Pending}
+use Rattle.pep508_tree.specs.declared.conjunction_walk.Pending.{Pending}
 use Rattle.pep508_tree.specs.Tree.{Tree}
 use Rattle.pep508_tree.specs.Meaning.{NodeOf, NodeRecord, IsTree, Extends}
 use Rattle.pep508_tree.specs.Forms.{record_of}

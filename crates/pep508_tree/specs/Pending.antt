@@ -4,7 +4,7 @@ use Rattle.std.specs.Ordering.{is_gt}
 use Rattle.std.specs.BTreeMap.{BTreeMap, get}
 use Rattle.pep508_diagram.specs.Text.{text_cmp}
 use Rattle.pep508_tree.specs.declared.tree_pair.TreePair.{TreePair}
-use Rattle.pep508_tree.specs.declared.walk.Pending.{Pending}
+use Rattle.pep508_tree.specs.declared.conjunction_walk.Pending.{Pending}
 use Rattle.pep508_tree.specs.Tree.{Tree}
 use Rattle.pep508_tree.specs.Meaning.{NodeRecord, IsTree}
 use Rattle.pep508_tree.specs.Forms.{record_of}

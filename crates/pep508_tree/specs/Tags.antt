@@ -5,7 +5,7 @@ use Rattle.std.specs.Ordering.{on, then_cmp, nat_cmp}
 use Rattle.version_ranges.specs.declared.boundary.Boundary.{Boundary}
 use Rattle.version_ranges.specs.declared.boundary.Boundary.TheVariants as boundary
 use Rattle.pep508_diagram.specs.declared.branch.Branch.{Branch}
-use Rattle.pep508_tags.specs.Tags.{mixed, text_tag, version_tag}
+use Rattle.pep508_node_hash.specs.Tags.{mixed, text_tag, version_tag}
 use Rattle.pep508_tree.specs.Tree.{Tree}
 use Rattle.pep508_tree.specs.Meaning.{NodeRecord}
 use Rattle.pep508_tree.specs.Nodes.{node_rank, node_text, first_child, second_child, node_cmp}

@@ -12,7 +12,7 @@
 //! `are_sound` does nothing: the invariant of a model is known only where the fields are visible, and laws
 //! in other crates need it.
 
-ghost use Rattle.std.specs.Prelude.{◌≡◌, ◌<◌, ◌-◌, [], ◌&&◌, IfOk};
+ghost use Rattle.std.specs.Prelude.{◌≡◌, ◌<◌, ◌-◌, [], ◌&&◌, length, IfOk};
 ghost use Rattle.pep508_diagram.specs.Question.{Valuation};
 ghost use Rattle.pep508_tree.specs.Meaning.{IsTree, Extends, holds};
 ghost use Rattle.pep508_tree.specs.Interning.{counted};
@@ -20,10 +20,10 @@ ghost use Rattle.pep508_tree.specs.Forms.{record_of};
 ghost use Rattle.pep508_tree.specs.Nodes.{AreSound, IsRising, IsJoined, chosen, node_at, Above};
 ghost use Rattle.pep508_tree.specs.Nodes.{AllChildren, Made, node_place};
 
+use crate::conjunction_walk::conjunction;
 use crate::leaf::with_constants;
 use crate::node::{Form, Node};
 use crate::table::NodeTable;
-use crate::walk::conjunction;
 use crate::{MarkerTree, TreePair};
 use std::alloc::{AllocError, Global};
 use std::collections::BTreeMap;
@@ -56,11 +56,29 @@ impl Interner {
         ensures nodes { result.nodes ≡ [] }
         ensures conjunctions { result.conjunctions ≡ 0 }
     {
+        Interner::with_most(alloc, usize::MAX)
+    }
+
+    /// Returns an interner of the constant trees alone, which makes no more nodes once it has more than
+    /// `most`: calls then answer `AllocError`. By `node_count` that is told from memory that ran out. Takes no
+    /// memory.
+    pub fn with_most(alloc: Global, most: usize) -> Interner
+        ensures nodes { result.nodes ≡ [] }
+        ensures conjunctions { result.conjunctions ≡ 0 }
+    {
         Interner {
-            table: NodeTable::new(alloc),
+            table: NodeTable::new(alloc, most),
             known: BTreeMap::new(alloc),
             conjunctions: 0,
         }
+    }
+
+    /// Returns the number of nodes, each of which stands for a tree that is not constant and for its
+    /// negation.
+    pub fn node_count(&self) -> usize
+        ensures { result ≡ length self.now.nodes }
+    {
+        self.table.len()
     }
 
     /// Returns how often `and` and `or` were called with this interner, failed calls among them. Stops at

@@ -6,6 +6,7 @@
 //! the nodes of its diagrams, in the order in which they were made, with the number of its conjunctions.
 
 mod algebra;
+mod conjunction_walk;
 mod interner;
 mod leaf;
 mod node;
@@ -14,7 +15,6 @@ mod root;
 mod table;
 mod tree;
 mod tree_pair;
-mod walk;
 
 pub use interner::{Interner, uncounted_conjunction};
 pub use root::{Children, TreeNode};

@@ -14,14 +14,14 @@ ghost use Rattle.pep508_tree.specs.Nodes.{branch_cmp, node_cmp};
 ghost use Rattle.pep508_tree.specs.Roots.{shown};
 ghost use Rattle.pep508_tree.specs.NodeLaws.{nodes_total};
 ghost use Rattle.pep508_tree.specs.Tags.{node_tag, branches_tag};
-ghost use Rattle.pep508_tags.specs.Tags.{text_tag, version_tag};
+ghost use Rattle.pep508_node_hash.specs.Tags.{text_tag, version_tag};
 
 use crate::root::{Children, TreeNode};
 use crate::tree::MarkerTree;
 use pep440_version::Version;
 use pep508_diagram::{Branch, Flag, MarkerText, NodeValue, VersionVariable, paired, text_rank};
 use pep508_marker::MarkerValueString;
-use pep508_tags::{mixed, text_tag, version_tag};
+use pep508_node_hash::{mixed, text_tag, version_tag};
 use std::alloc::{AllocError, Global};
 use std::cmp::Ordering;
 use std::marker::Model;

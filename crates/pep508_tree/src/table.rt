@@ -8,9 +8,10 @@
 //! nodes apart.
 //!
 //! A node is stored whole or not at all: room in the list first, then the map's entry, then the list, which
-//! cannot fail any more. Bounds are put into their shortest spelling here (`store`), whoever makes the
-//! node, so that no caller has to promise it. That takes one more list for each node of versions and copies
-//! no version.
+//! cannot fail any more. A table that has more nodes than it may have takes no more, as if memory had run
+//! out, so that one node too many tells that the number didn't suffice. Bounds are put into their shortest
+//! spelling here (`store`), whoever makes the node, so that no caller has to promise it. That takes one more
+//! list for each node of versions and copies no version.
 
 ghost use Rattle.std.specs.Prelude.{◌≡◌, ◌⊎◌, ◌-◌, ◌<◌, false, [], length, map, IfOk, IsTrue, ◌↔◌, refl};
 ghost use Rattle.std.specs.Cmp.{eq_by_cmp_equiv, partial_equiv_from_equiv, partial_order_from_agreeing_total};
@@ -41,6 +42,7 @@ pub(crate) struct NodeTable {
     nodes: Vec<Rc<Node>>,
     places: BTreeMap<Tagged, usize>,
     alloc: Global,
+    most: usize,
 }
 
 /// A node with its hash, which comes first in the order, so that mostly it alone decides.
@@ -192,15 +194,23 @@ fn is_alone(form: &Form<MarkerTree>) -> bool
 }
 
 impl NodeTable {
-    /// Returns a table without nodes. Takes no memory.
-    pub fn new(alloc: Global) -> NodeTable
+    /// Returns a table without nodes, which takes no more once it has more than `most`. Takes no memory.
+    pub fn new(alloc: Global, most: usize) -> NodeTable
         ensures { result ≡ [] }
     {
         NodeTable {
             nodes: Vec::new(alloc),
             places: BTreeMap::new(alloc),
             alloc,
+            most,
         }
+    }
+
+    /// Returns the number of nodes.
+    pub fn len(&self) -> usize
+        ensures { result ≡ length self.now }
+    {
+        self.nodes.len()
     }
 
     /// Returns the allocator of the nodes.
@@ -276,6 +286,9 @@ impl NodeTable {
         let key = Tagged::new(owner);
         if let Some(place) = self.places.get(&key) {
             return Ok(*place + 1);
+        }
+        if self.nodes.len() > self.most {
+            return Err(AllocError);
         }
         self.nodes.reserve(1)?;
         let place = self.nodes.len();

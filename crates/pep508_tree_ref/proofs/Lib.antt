@@ -3,3 +3,4 @@ pub mod Edges
 pub mod Walking
 mod Printed
 mod Ties
+mod Sound

@@ -4,7 +4,7 @@ use Rattle.std.specs.Ordering.{eq_by_cmp}
 use Rattle.pep508_diagram.specs.Diagram.{Diagram}
 use Rattle.pep508_diagram.specs.Question.{Question, IsCanonical}
 use Rattle.pep508_diagram.specs.Shortened.{HasShortVersions}
-use Rattle.pep508_marker_text.proofs.Spelled.{one_spelling}
+use Rattle.pep508_marker_text_laws.proofs.Spelled.{one_spelling}
 use Rattle.pep508_tree_ref.specs.TreeOrder.{diagram_cmp}
 use Rattle.pep508_tree_ref.specs.TreeText.{tree_text}
 use Rattle.pep508_tree_ref.proofs.Ordered.{tied_mean_the_same}

@@ -5,8 +5,7 @@
 mod end;
 mod known;
 pub mod laws;
-mod order;
-mod root;
+mod tree_order;
 mod tree_ref;
 
 pub use tree_ref::MarkerTreeRef;

@@ -13,8 +13,8 @@
 
 ghost use Rattle.pep508_tree.specs.Meaning.{IsTree};
 
-use crate::order::cmp_trees;
-use pep508_marker_dnf::MarkerTreeText;
+use crate::tree_order::cmp_trees;
+use pep508_marker_display::MarkerTreeText;
 use pep508_tree::{Interner, MarkerTree};
 use std::alloc::{AllocError, Global};
 use std::cmp::Ordering;
@@ -45,7 +45,7 @@ impl<'a> MarkerTreeRef<'a> {
     ghost use Rattle.std.specs.String.{string_bytes};
     ghost use Rattle.pep508_diagram.specs.Question.{IsCanonical};
     ghost use Rattle.pep508_diagram.specs.Shortened.{HasShortVersions};
-    ghost use Rattle.pep508_marker_text.specs.MarkerText.{marker_text};
+    ghost use Rattle.pep508_marker_text_laws.specs.MarkerText.{marker_text};
     ghost use Rattle.pep508_tree.specs.Meaning.{IsTree};
     ghost use Rattle.pep508_tree_ref.specs.Lent.{tree_in};
     ghost use Rattle.pep508_tree_ref.specs.TreeIn.{diagram_in};
@@ -74,7 +74,7 @@ impl<'a> MarkerTreeRef<'a> {
 
     /// Shows that the tree has no needless question, and each version is in its shortest spelling. Does
     /// nothing.
-    #[tactic(auto, using(pep508_tree::proofs::OneTree::canonical_trees, pep508_tree::proofs::Shortened::short_trees))]
+    #[tactic(auto, using(crate::proofs::Sound::sound_trees))]
     pub fn is_canonical(&self)
         ensures canonical { IsCanonical (diagram_in (tree_in self.now)) }
         ensures short { HasShortVersions (diagram_in (tree_in self.now)) }

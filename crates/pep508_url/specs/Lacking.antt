@@ -2,8 +2,8 @@
 use Rattle.std.specs.Prelude.{Bool, true, false}
 use Rattle.url.specs.declared.error.ParseError.{ParseError}
 use Rattle.url.specs.declared.error.ParseError.TheVariants.{OutOfMemory, Overflow}
-use Rattle.pep508_url.specs.declared.error.VerbatimUrlError.{VerbatimUrlError}
-use Rattle.pep508_url.specs.declared.error.VerbatimUrlError.TheVariants.{Memory}
+use Rattle.pep508_url.specs.declared.url_error.VerbatimUrlError.{VerbatimUrlError}
+use Rattle.pep508_url.specs.declared.url_error.VerbatimUrlError.TheVariants.{Memory}
 
 -- the crate `url` found no memory, or the URL came to 4 GB
 abbrev pub lacks_room : ParseError → Bool

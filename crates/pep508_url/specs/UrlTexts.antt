@@ -13,8 +13,8 @@ use Rattle.url.specs.Parts.{Parts, has_host, serialize}
 use Rattle.url.specs.Setters.{set_fragment}
 use Rattle.pep508_url.specs.declared.scheme.Scheme.{Scheme}
 use Rattle.pep508_url.specs.declared.scheme.Scheme.TheVariants.{File}
-use Rattle.pep508_url.specs.declared.place.Place.{Place}
-use Rattle.pep508_url.specs.declared.place.Place.TheVariants as places
+use Rattle.pep508_url.specs.declared.path_or_url.Place.{Place}
+use Rattle.pep508_url.specs.declared.path_or_url.Place.TheVariants as places
 use Rattle.pep508_url.specs.Cuts.{cut}
 use Rattle.pep508_url.specs.Vars.{Variables}
 use Rattle.pep508_url.specs.Expansion.{expanded}

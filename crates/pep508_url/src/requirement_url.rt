@@ -13,7 +13,7 @@ ghost use Rattle.pep508_url.specs.UrlFaults.{told_url};
 ghost use Rattle.pep508_url.specs.UrlTexts.{given_as, text_reading, path_reading, verbatim_reading};
 ghost use Rattle.pep508_url.specs.Vars.{Variables, IsAbsolute};
 
-use crate::reading::read_requirement_url;
+use crate::reading_url::read_requirement_url;
 use crate::{Vars, VerbatimUrl, VerbatimUrlError, expand_env_vars};
 use std::alloc::Global;
 use std::error::Error;

@@ -10,7 +10,7 @@ ghost use Rattle.pep508_url.specs.UrlTexts.{given_as, text_reading, path_reading
 ghost use Rattle.pep508_url.specs.Vars.{IsAbsolute};
 
 use crate::VerbatimUrlError;
-use crate::reading::{path_of_url, read_path, read_url};
+use crate::reading_url::{path_of_url, read_path, read_url};
 use read_outcome::FromValueError;
 use serde_json::Value;
 use std::alloc::{AllocError, Global};

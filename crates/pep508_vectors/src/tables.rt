@@ -12,9 +12,9 @@ use pep508_name::PackageName;
 use pep508_tree::Interner;
 use pep508_url::Vars;
 use reqtable_answer::{Admission, Answer};
+use reqtable_candidates::Candidates;
 use reqtable_requirements::Requirements;
 use reqtable_table::{Case, Table};
-use reqtable_text::Candidates;
 use std::alloc::{AllocError, Global};
 use std::fmt::Write;
 

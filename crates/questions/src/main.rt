@@ -1,10 +1,10 @@
-//! Answers the questions of `pep440_vectors`, `pep508_vectors` and `pep508_marker_vectors`, one a line. The head
-//! of each of these crates lists its questions.
+#![tactic(auto)]
+//! Answers the questions of `pep440_vectors`, `pep508_vectors` and `pep508_marker_vectors`, one a line. The
+//! head of each of these crates lists its questions.
 //!
 //! The questions of a crate are in the file of its name; where there is no such file it is asked nothing.
-//! `environments.txt` has the environments that questions on markers may name: a line each, its name, a tab and
-//! its JSON value.
-#![tactic(auto)]
+//! `environments.txt` has the environments that questions on markers may name: a line each, its name, a tab
+//! and its JSON value.
 
 use pep508_url::Vars;
 use std::{fs, io};

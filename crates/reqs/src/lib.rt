@@ -18,6 +18,6 @@
 
 pub use pep508_url::Vars;
 pub use reqs_answers::{check, laws, matrix};
-pub use reqs_ends::{Input, JsonShape, RefusedCause, RefusedWord, RunFault, Status};
+pub use reqs_io_faults::{Input, JsonShape, RefusedCause, RefusedWord, RunFault, Status};
 pub use reqs_json::Format;
 pub use reqs_lists::{conflicts, normal, same};

@@ -3,22 +3,22 @@ use Rattle.std.proofs.Common.{◌≡◌, ◌≢◌, ◌∙◌, ◌⊎◌, inl, i
 use Rattle.std.proofs.Common.{sym, subst}
 use Rattle.std.specs.List.{AllZip}
 use Rattle.pep508_url.specs.Vars.{Variables}
-use Rattle.reqtable_text.specs.TextLines.{text_lines}
+use Rattle.reqtable_candidates.specs.TextLines.{text_lines}
 use Rattle.reqtable_requirements.specs.LineReading.{LineRecord}
 use Rattle.reqtable_requirements.specs.Requirements.{IsErrorIn}
 use Rattle.reqs_io.specs.Front.{AreAsTold}
 use Rattle.reqs_json.specs.declared.format.Format.{Format}
 use Rattle.pep508_environment.specs.Environment.{EnvironmentRecord}
-use Rattle.reqs_ends.specs.declared.fault.Input.{Input}
-use Rattle.reqs_ends.specs.declared.fault.Input.TheVariants.{First, Second}
-use Rattle.reqs_ends.specs.declared.fault.RunFault.{RunFault}
-use Rattle.reqs_ends.specs.declared.fault.RunFault.TheVariants.{Memory, Write}
-use Rattle.reqs_ends.specs.declared.fault.Status.{Status}
-use Rattle.reqs_ends.specs.declared.fault.Status.TheVariants.{Answered}
-use Rattle.reqs_ends.specs.Faults.{IsPlain, IsOfTexts, Refuses}
-use Rattle.reqs_ends.specs.Inputs.{extras_of, lines_from, environment_from, environments_from}
-use Rattle.reqs_ends.specs.Ends.{AreWithin, Answering, Refusing, Runs, EndsAs}
-use Rattle.reqs_ends.proofs.Steps.{refuses_texts, texts_refused, answered}
+use Rattle.reqs_io_faults.specs.declared.fault.Input.{Input}
+use Rattle.reqs_io_faults.specs.declared.fault.Input.TheVariants.{First, Second}
+use Rattle.reqs_io_faults.specs.declared.fault.RunFault.{RunFault}
+use Rattle.reqs_io_faults.specs.declared.fault.RunFault.TheVariants.{Memory, Write}
+use Rattle.reqs_io_faults.specs.declared.fault.Status.{Status}
+use Rattle.reqs_io_faults.specs.declared.fault.Status.TheVariants.{Answered}
+use Rattle.reqs_io_faults.specs.Faults.{IsPlain, IsOfTexts, Refuses}
+use Rattle.reqs_io_faults.specs.Inputs.{extras_of, lines_from, environment_from, environments_from}
+use Rattle.reqs_io_faults.specs.Ends.{AreWithin, Answering, Refusing, Runs, EndsAs}
+use Rattle.reqs_io_faults.proofs.Steps.{refuses_texts, texts_refused, answered}
 use Rattle.reqs_answers.specs.Check.{AnswersText}
 use Rattle.reqs_pieces.specs.Pieces.{PiecesRecord}
 use Rattle.reqs_answers.specs.Matrix.{MatrixTexts, IsRead, IsOverLimit, AnswersAll, WritesText}

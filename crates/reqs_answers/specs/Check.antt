@@ -9,13 +9,13 @@ use Rattle.reqtable_answer.specs.Answer.{Admits}
 use Rattle.reqtable_requirements.specs.Asks.{asks_of}
 use Rattle.reqs_json.specs.declared.format.Format.{Format}
 use Rattle.reqs_json.specs.Rows.{IsAnswerIn}
-use Rattle.reqs_ends.specs.declared.fault.Input.TheVariants.{First, Second, Third}
-use Rattle.reqs_ends.specs.declared.fault.RunFault.{RunFault}
-use Rattle.reqs_ends.specs.declared.fault.Status.{Status}
-use Rattle.reqs_ends.specs.declared.fault.Status.TheVariants.{Answered}
-use Rattle.reqs_ends.specs.Faults.{Cause, IsOfTexts, Refuses}
-use Rattle.reqs_ends.specs.Inputs.{environment_from}
-use Rattle.reqs_ends.specs.Ends.{of_input, Runs}
+use Rattle.reqs_io_faults.specs.declared.fault.Input.TheVariants.{First, Second, Third}
+use Rattle.reqs_io_faults.specs.declared.fault.RunFault.{RunFault}
+use Rattle.reqs_io_faults.specs.declared.fault.Status.{Status}
+use Rattle.reqs_io_faults.specs.declared.fault.Status.TheVariants.{Answered}
+use Rattle.reqs_io_faults.specs.Faults.{Cause, IsOfTexts, Refuses}
+use Rattle.reqs_io_faults.specs.Inputs.{environment_from}
+use Rattle.reqs_io_faults.specs.Ends.{of_input, Runs}
 use Rattle.reqs_answers.specs.Texts.{ReadTexts, texts_of}
 
 -- a pre-release or a developmental release is admitted if an applicable line has a specifier that names one,

@@ -6,7 +6,7 @@ use Rattle.pep508_url.specs.Vars.{Variables}
 use Rattle.pep508_tree.specs.Meaning.{NodeRecord}
 use Rattle.pep508_environment.specs.Environment.{EnvironmentRecord}
 use Rattle.pep508_evaluation.specs.Valuations.{valuation_of}
-use Rattle.reqtable_text.specs.declared.candidates.Candidate.{Candidate}
+use Rattle.reqtable_candidates.specs.declared.candidates.Candidate.{Candidate}
 use Rattle.reqtable_answer.specs.Answer.{Admits, RowRecord, IsAnswer, IsAnswerText}
 use Rattle.reqs_json.specs.declared.format.Format.{Format}
 use Rattle.reqs_json.specs.declared.format.Format.TheVariants.{Text, Json}
@@ -19,14 +19,14 @@ use Rattle.reqtable_requirements.specs.declared.requirements.Line.{Line}
 use Rattle.reqtable_cases.specs.Lines.{HasTooMany, IsFirstTooMany}
 use Rattle.reqtable_table.specs.Cases.{Builds}
 use Rattle.reqtable_table.specs.Kept.{KeptPackage}
-use Rattle.reqs_ends.specs.declared.fault.Input.TheVariants.{First, Second, Third}
-use Rattle.reqs_ends.specs.declared.fault.RunFault.{RunFault}
-use Rattle.reqs_ends.specs.declared.fault.RunFault.TheVariants.{TooManyCases, Memory, Write}
-use Rattle.reqs_ends.specs.declared.fault.Status.{Status}
-use Rattle.reqs_ends.specs.declared.fault.Status.TheVariants.{Answered}
-use Rattle.reqs_ends.specs.Faults.{Cause, IsOfTexts, Refuses}
-use Rattle.reqs_ends.specs.Inputs.{environments_from}
-use Rattle.reqs_ends.specs.Ends.{of_input, Runs}
+use Rattle.reqs_io_faults.specs.declared.fault.Input.TheVariants.{First, Second, Third}
+use Rattle.reqs_io_faults.specs.declared.fault.RunFault.{RunFault}
+use Rattle.reqs_io_faults.specs.declared.fault.RunFault.TheVariants.{TooManyCases, Memory, Write}
+use Rattle.reqs_io_faults.specs.declared.fault.Status.{Status}
+use Rattle.reqs_io_faults.specs.declared.fault.Status.TheVariants.{Answered}
+use Rattle.reqs_io_faults.specs.Faults.{Cause, IsOfTexts, Refuses}
+use Rattle.reqs_io_faults.specs.Inputs.{environments_from}
+use Rattle.reqs_io_faults.specs.Ends.{of_input, Runs}
 use Rattle.reqs_io.specs.Front.{WritesWhole, AppendsFront}
 use Rattle.reqs_pieces.specs.Pieces.{PiecesRecord}
 use Rattle.reqs_answers.specs.Check.{on_request}

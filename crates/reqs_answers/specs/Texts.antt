@@ -1,11 +1,11 @@
 -- The parsed texts of a command's inputs and its extras, or the first thing at fault.
 use Rattle.std.specs.Prelude.{ℕ, List, Result, Ok}
 use Rattle.pep508_url.specs.Vars.{Variables}
-use Rattle.reqtable_text.specs.declared.candidates.Candidate.{Candidate}
+use Rattle.reqtable_candidates.specs.declared.candidates.Candidate.{Candidate}
 use Rattle.reqtable_requirements.specs.LineReading.{LineRecord}
-use Rattle.reqs_ends.specs.declared.fault.Input.TheVariants.{First, Third}
-use Rattle.reqs_ends.specs.Faults.{Cause}
-use Rattle.reqs_ends.specs.Inputs.{◌>>=◌, extras_of, lines_from, candidates_from}
+use Rattle.reqs_io_faults.specs.declared.fault.Input.TheVariants.{First, Third}
+use Rattle.reqs_io_faults.specs.Faults.{Cause}
+use Rattle.reqs_io_faults.specs.Inputs.{◌>>=◌, extras_of, lines_from, candidates_from}
 
 -- extras, requirements, the parsed second input, and candidates
 pub record ReadTexts (E : Type 0) : Type 0 where

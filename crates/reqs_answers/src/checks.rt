@@ -11,9 +11,9 @@ ghost use Rattle.reqtable_requirements.specs.Asks.{asks_of};
 ghost use Rattle.reqtable_requirements.specs.LineReading.{LineRecord};
 ghost use Rattle.reqtable_requirements.specs.Requirements.{SaysLine};
 ghost use Rattle.reqs_json.specs.Rows.{IsAnswerIn};
-ghost use Rattle.reqs_ends.specs.declared.fault.Input.TheVariants.{First, Second};
-ghost use Rattle.reqs_ends.specs.Faults.{IsPlain, IsOfTexts};
-ghost use Rattle.reqs_ends.specs.Inputs.{environment_from};
+ghost use Rattle.reqs_io_faults.specs.declared.fault.Input.TheVariants.{First, Second};
+ghost use Rattle.reqs_io_faults.specs.Faults.{IsPlain, IsOfTexts};
+ghost use Rattle.reqs_io_faults.specs.Inputs.{environment_from};
 ghost use Rattle.reqs_answers.specs.Check.{on_request, AnswersText, RunsCheck};
 ghost use Rattle.reqs_answers.specs.Texts.{behind_lines, texts_of};
 
@@ -21,14 +21,14 @@ use crate::admitting::is_admitted;
 use pep508_environment::MarkerEnvironment;
 use pep508_name::ExtraName;
 use pep508_url::Vars;
-use reqs_ends::{
+use reqs_io_faults::{
     Input, RunFault, Status, read_candidates, read_environment, read_extras, read_input,
     read_marked_lines, write_answer,
 };
 use reqs_json::Format;
 use reqtable_answer::Admission;
+use reqtable_candidates::Candidates;
 use reqtable_requirements::MarkedLines;
-use reqtable_text::Candidates;
 use std::alloc::{AllocError, Global};
 use std::io::{Read, Write};
 

@@ -7,7 +7,7 @@ ghost use Rattle.pep508_evaluation.specs.Valuations.{valuation_of};
 ghost use Rattle.reqtable_answer.specs.Answer.{IsAnswer, IsAnswerText, RowRecord, answer_text};
 ghost use Rattle.reqtable_requirements.specs.Asks.{asks_of};
 ghost use Rattle.reqtable_requirements.specs.LineReading.{LineRecord};
-ghost use Rattle.reqtable_text.specs.declared.candidates.Candidate.{Candidate};
+ghost use Rattle.reqtable_candidates.specs.declared.candidates.Candidate.{Candidate};
 ghost use Rattle.reqs_json.specs.declared.format.Format.TheVariants.{Text, Json};
 ghost use Rattle.reqs_json.specs.Lines.{line_of};
 ghost use Rattle.reqs_json.specs.Rows.{answer_value, answers_value};

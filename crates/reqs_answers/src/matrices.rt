@@ -16,9 +16,9 @@ ghost use Rattle.reqtable_requirements.specs.Requirements.{StandsFor};
 ghost use Rattle.reqtable_table.specs.Cases.{HasItsCases};
 ghost use Rattle.reqtable_table.specs.Kept.{KeepsAll};
 ghost use Rattle.reqtable_table.specs.Runs.{AreRunsOf, AreTold};
-ghost use Rattle.reqs_ends.specs.declared.fault.Input.TheVariants.{First, Second};
-ghost use Rattle.reqs_ends.specs.Faults.{IsPlain, IsOfTexts};
-ghost use Rattle.reqs_ends.specs.Inputs.{environments_from};
+ghost use Rattle.reqs_io_faults.specs.declared.fault.Input.TheVariants.{First, Second};
+ghost use Rattle.reqs_io_faults.specs.Faults.{IsPlain, IsOfTexts};
+ghost use Rattle.reqs_io_faults.specs.Inputs.{environments_from};
 ghost use Rattle.reqs_answers.specs.Check.{on_request};
 ghost use Rattle.reqs_json.specs.declared.format.Format.TheVariants.{Json};
 ghost use Rattle.reqs_answers.specs.Matrix.{environment_line, IsMatrixText, IsMatrixIn, AreRead, AnswersAll};
@@ -31,7 +31,7 @@ use pep508_environment::MarkerEnvironment;
 use pep508_name::ExtraName;
 use pep508_tree::Interner;
 use pep508_url::Vars;
-use reqs_ends::{
+use reqs_io_faults::{
     Input, RunFault, Status, read_candidates, read_environments, read_extras, read_input,
     read_requirements,
 };
@@ -39,9 +39,9 @@ use reqs_json::{Format, environment_text};
 use reqs_pieces::Pieces;
 use reqs_rows::RowTexts;
 use reqtable_answer::Admission;
+use reqtable_candidates::Candidates;
 use reqtable_requirements::Requirements;
 use reqtable_table::{Runs, Table, TableError};
-use reqtable_text::Candidates;
 use std::alloc::{AllocError, Global};
 use std::io::{Read, Write};
 

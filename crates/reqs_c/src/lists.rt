@@ -1,9 +1,9 @@
 //! Lists of requirements: the commands of `reqs`.
 
-ghost use Rattle.reqs_reply.specs.Endings.{RepliesAs};
-ghost use Rattle.reqs_slices.specs.Commands.{CheckEnds, MatrixEnds, SameEnds, ConflictsEnd, NormalEnds};
+ghost use Rattle.reqs_c_reply.specs.Endings.{RepliesAs};
+ghost use Rattle.reqs_c_lists.specs.Commands.{CheckEnds, MatrixEnds, SameEnds, ConflictsEnd, NormalEnds};
 
-use reqs_reply::Reply;
+use reqs_c_reply::Reply;
 use std::alloc::Global;
 
 /// The answer of `reqs check` for one environment. `extras` has one extra per line.
@@ -19,7 +19,7 @@ pub extern "C" fn reqs_check(
     ensures { RepliesAs (CheckEnds requirements.now environment.now candidates.now extras.now)
         out.old out.new result }
 {
-    reqs_slices::check(alloc, requirements, environment, candidates, extras, out)
+    reqs_c_lists::check(alloc, requirements, environment, candidates, extras, out)
 }
 
 /// The answer of `reqs matrix` for many environments. `extras` has one extra per line, and no package may
@@ -37,7 +37,7 @@ pub extern "C" fn reqs_matrix(
     ensures { RepliesAs (MatrixEnds limit requirements.now environments.now candidates.now extras.now)
         out.old out.new result }
 {
-    reqs_slices::matrix(
+    reqs_c_lists::matrix(
         alloc,
         requirements,
         environments,
@@ -59,7 +59,7 @@ pub extern "C" fn reqs_same(
 ) -> Reply
     ensures { RepliesAs (SameEnds limit left.now right.now) out.old out.new result }
 {
-    reqs_slices::same(alloc, left, right, limit, out)
+    reqs_c_lists::same(alloc, left, right, limit, out)
 }
 
 /// The answer of `reqs conflicts` on a list. No package may have more cases than `limit`.
@@ -72,7 +72,7 @@ pub extern "C" fn reqs_conflicts(
 ) -> Reply
     ensures { RepliesAs (ConflictsEnd limit requirements.now) out.old out.new result }
 {
-    reqs_slices::conflicts(alloc, requirements, limit, out)
+    reqs_c_lists::conflicts(alloc, requirements, limit, out)
 }
 
 /// The answer of `reqs normal`: the list in its normal form.
@@ -80,5 +80,5 @@ pub extern "C" fn reqs_conflicts(
 pub extern "C" fn reqs_normal(alloc: Global, requirements: &[u8], out: &mut [u8]) -> Reply
     ensures { RepliesAs (NormalEnds requirements.now) out.old out.new result }
 {
-    reqs_slices::normal(alloc, requirements, out)
+    reqs_c_lists::normal(alloc, requirements, out)
 }

@@ -1,14 +1,14 @@
 //! Markers (PEP 508, "Environment Markers").
 
-ghost use Rattle.reqs_reply.specs.Endings.{RepliesAs};
-ghost use Rattle.reqs_markers.specs.Markers.{MarkerEnds};
-ghost use Rattle.reqs_algebra.specs.Keys.{KeyEnds};
-ghost use Rattle.reqs_algebra.specs.Relations.{TruthEnds, DisjointEnds, ImpliesEnds};
-ghost use Rattle.reqs_algebra.specs.Made.{NegatedEnds};
-ghost use Rattle.reqs_algebra.specs.Simplified.{SimplifiedPythonEnds, SimplifiedExtrasEnds};
-ghost use Rattle.reqs_slices.specs.Holding.{HoldEnds};
+ghost use Rattle.reqs_c_reply.specs.Endings.{RepliesAs};
+ghost use Rattle.reqs_c_markers.specs.Markers.{MarkerEnds};
+ghost use Rattle.reqs_c_algebra.specs.Keys.{KeyEnds};
+ghost use Rattle.reqs_c_algebra.specs.Relations.{TruthEnds, DisjointEnds, ImpliesEnds};
+ghost use Rattle.reqs_c_algebra.specs.Made.{NegatedEnds};
+ghost use Rattle.reqs_c_algebra.specs.Simplified.{SimplifiedPythonEnds, SimplifiedExtrasEnds};
+ghost use Rattle.reqs_c_lists.specs.Holding.{HoldEnds};
 
-use reqs_reply::Reply;
+use reqs_c_reply::Reply;
 use std::alloc::Global;
 
 /// The normal text of a marker, which is empty if it always holds.
@@ -16,7 +16,7 @@ use std::alloc::Global;
 pub extern "C" fn reqs_marker(alloc: Global, text: &[u8], out: &mut [u8]) -> Reply
     ensures { RepliesAs (MarkerEnds text.now) out.old out.new result }
 {
-    reqs_markers::marker(alloc, text, out)
+    reqs_c_markers::marker(alloc, text, out)
 }
 
 /// The key of a marker: equal bytes exactly if two markers hold under the same valuations.
@@ -24,7 +24,7 @@ pub extern "C" fn reqs_marker(alloc: Global, text: &[u8], out: &mut [u8]) -> Rep
 pub extern "C" fn reqs_marker_key(alloc: Global, text: &[u8], out: &mut [u8]) -> Reply
     ensures { RepliesAs (KeyEnds text.now) out.old out.new result }
 {
-    reqs_algebra::marker_key(alloc, text, out)
+    reqs_c_algebra::marker_key(alloc, text, out)
 }
 
 /// Whether a marker always holds, never, or sometimes: `1`, `0` or `-`.
@@ -32,7 +32,7 @@ pub extern "C" fn reqs_marker_key(alloc: Global, text: &[u8], out: &mut [u8]) ->
 pub extern "C" fn reqs_marker_truth(alloc: Global, text: &[u8], out: &mut [u8]) -> Reply
     ensures { RepliesAs (TruthEnds text.now) out.old out.new result }
 {
-    reqs_algebra::marker_truth(alloc, text, out)
+    reqs_c_algebra::marker_truth(alloc, text, out)
 }
 
 /// Whether two markers never hold together: `1` or `0`.
@@ -45,7 +45,7 @@ pub extern "C" fn reqs_markers_disjoint(
 ) -> Reply
     ensures { RepliesAs (DisjointEnds left.now right.now) out.old out.new result }
 {
-    reqs_algebra::markers_disjoint(alloc, left, right, out)
+    reqs_c_algebra::markers_disjoint(alloc, left, right, out)
 }
 
 /// Whether the right marker holds wherever the left one does: `1` or `0`.
@@ -58,7 +58,7 @@ pub extern "C" fn reqs_marker_implies(
 ) -> Reply
     ensures { RepliesAs (ImpliesEnds left.now right.now) out.old out.new result }
 {
-    reqs_algebra::marker_implies(alloc, left, right, out)
+    reqs_c_algebra::marker_implies(alloc, left, right, out)
 }
 
 /// The normal text of a marker's negation, which holds where the marker doesn't.
@@ -66,7 +66,7 @@ pub extern "C" fn reqs_marker_implies(
 pub extern "C" fn reqs_marker_negated(alloc: Global, text: &[u8], out: &mut [u8]) -> Reply
     ensures { RepliesAs (NegatedEnds text.now) out.old out.new result }
 {
-    reqs_algebra::marker_negated(alloc, text, out)
+    reqs_c_algebra::marker_negated(alloc, text, out)
 }
 
 /// The normal text of a marker, simplified for versions of Python from a bound on and below another.
@@ -80,7 +80,7 @@ pub extern "C" fn reqs_marker_simplify_python(
 ) -> Reply
     ensures { RepliesAs (SimplifiedPythonEnds text.now lower.now upper.now) out.old out.new result }
 {
-    reqs_algebra::marker_simplify_python(alloc, text, lower, upper, out)
+    reqs_c_algebra::marker_simplify_python(alloc, text, lower, upper, out)
 }
 
 /// The normal text of a marker, under the assumption that the extras, one per line, are present.
@@ -93,7 +93,7 @@ pub extern "C" fn reqs_marker_simplify_extras(
 ) -> Reply
     ensures { RepliesAs (SimplifiedExtrasEnds text.now extras.now) out.old out.new result }
 {
-    reqs_algebra::marker_simplify_extras(alloc, text, extras, out)
+    reqs_c_algebra::marker_simplify_extras(alloc, text, extras, out)
 }
 
 /// Which markers, one per line, hold in an environment with extras: a byte `1`, `0` or `?` for each line.
@@ -107,5 +107,5 @@ pub extern "C" fn reqs_markers_hold(
 ) -> Reply
     ensures { RepliesAs (HoldEnds markers.now environment.now extras.now) out.old out.new result }
 {
-    reqs_slices::markers_hold(alloc, markers, environment, extras, out)
+    reqs_c_lists::markers_hold(alloc, markers, environment, extras, out)
 }

@@ -4,10 +4,10 @@ use Rattle.std.proofs.Common.{take, ap}
 use Rattle.underline.specs.Underline.{underlined}
 use Rattle.pep508_url.specs.UrlFaults.{url_error_text}
 use Rattle.pep508_url.specs.UrlTexts.{Verbatim}
-use Rattle.pep508_url.specs.declared.error.VerbatimUrlError.{VerbatimUrlError}
+use Rattle.pep508_url.specs.declared.url_error.VerbatimUrlError.{VerbatimUrlError}
 use Rattle.pep508_error.specs.declared.error.Pep508Error.{Pep508Error}
 use Rattle.pep508_error.specs.Errors.{source_text}
-use Rattle.reqs_ends.specs.FaultText.{requirement_front}
+use Rattle.reqs_io_faults.specs.FaultText.{requirement_front}
 use Rattle.reqs_command.specs.Shown.{shown_text, shown_columns, shown_marks, IsShownRequirement}
 
 -- a text that was made is the one that is wanted

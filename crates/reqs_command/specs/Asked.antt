@@ -5,8 +5,8 @@ use Rattle.clap.specs.Words.{first_value, one_text}
 use Rattle.clap.specs.declared.parser.matches.Found.{Found}
 use Rattle.reqs_json.specs.declared.format.Format.{Format}
 use Rattle.reqs_json.specs.declared.format.Format.TheVariants.{Text, Json}
-use Rattle.reqs_command.specs.declared.asked.Asked.{Asked}
-use Rattle.reqs_command.specs.declared.asked.Asked.TheVariants.{Check, Matrix, Same, Conflicts, Normal}
+use Rattle.reqs_command.specs.declared.request.Asked.{Asked}
+use Rattle.reqs_command.specs.declared.request.Asked.TheVariants.{Check, Matrix, Same, Conflicts, Normal}
 
 -- the word that names a command
 abbrev pub name_of : Asked → List ℕ

@@ -1,9 +1,9 @@
 -- The exit status of the program.
 use Rattle.std.specs.Prelude.{ℕ, Result, Ok, Err}
-use Rattle.reqs_ends.specs.Faults.{status_of}
-use Rattle.reqs_ends.specs.declared.fault.RunFault.{RunFault}
-use Rattle.reqs_ends.specs.declared.fault.Status.{Status}
-use Rattle.reqs_ends.specs.declared.fault.Status.TheVariants.{Answered, Different}
+use Rattle.reqs_io_faults.specs.Faults.{status_of}
+use Rattle.reqs_io_faults.specs.declared.fault.RunFault.{RunFault}
+use Rattle.reqs_io_faults.specs.declared.fault.Status.{Status}
+use Rattle.reqs_io_faults.specs.declared.fault.Status.TheVariants.{Answered, Different}
 
 -- the exit status for a command's result
 abbrev pub status_after : Result Status RunFault → ℕ

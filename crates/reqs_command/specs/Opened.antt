@@ -3,19 +3,19 @@ use Rattle.std.specs.Prelude.{◌≡◌, ◌⊎◌, ℕ, List, [], ◌∷◌, ma
 use Rattle.std.specs.List.{AllZip}
 use Rattle.pep508_url.specs.Vars.{Variables}
 use Rattle.reqs_json.specs.declared.format.Format.{Format}
-use Rattle.reqs_ends.specs.declared.fault.Input.{Input}
-use Rattle.reqs_ends.specs.declared.fault.Input.TheVariants.{First, Second, Third}
-use Rattle.reqs_ends.specs.declared.fault.RunFault.{RunFault}
-use Rattle.reqs_ends.specs.declared.fault.RunFault.TheVariants.{Memory}
-use Rattle.reqs_ends.specs.declared.fault.Status.{Status}
-use Rattle.reqs_ends.specs.Ends.{Answering, Refusing, Runs}
+use Rattle.reqs_io_faults.specs.declared.fault.Input.{Input}
+use Rattle.reqs_io_faults.specs.declared.fault.Input.TheVariants.{First, Second, Third}
+use Rattle.reqs_io_faults.specs.declared.fault.RunFault.{RunFault}
+use Rattle.reqs_io_faults.specs.declared.fault.RunFault.TheVariants.{Memory}
+use Rattle.reqs_io_faults.specs.declared.fault.Status.{Status}
+use Rattle.reqs_io_faults.specs.Ends.{Answering, Refusing, Runs}
 use Rattle.reqs_answers.specs.Check.{ChecksAs, CheckRefuses}
 use Rattle.reqs_answers.specs.Matrix.{MatrixAnswersAs, MatrixRefuses}
 use Rattle.reqs_lists.specs.Comparison.{SameAnswersAs, SameRefuses}
 use Rattle.reqs_lists.specs.Contradictions.{ConflictsAnswerAs, ConflictsRefuse}
 use Rattle.reqs_lists.specs.Normal.{NormalAnswersAs, NormalRefuses}
-use Rattle.reqs_command.specs.declared.asked.Asked.{Asked}
-use Rattle.reqs_command.specs.declared.asked.Asked.TheVariants.{Check, Matrix, Same, Conflicts, Normal}
+use Rattle.reqs_command.specs.declared.request.Asked.{Asked}
+use Rattle.reqs_command.specs.declared.request.Asked.TheVariants.{Check, Matrix, Same, Conflicts, Normal}
 use Rattle.reqs_command.specs.declared.opened.Opened.{Opened}
 use Rattle.reqs_command.specs.declared.opened.Opened.TheVariants as opened
 

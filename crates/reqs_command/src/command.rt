@@ -2,21 +2,21 @@
 
 ghost use Rattle.std.specs.Prelude.{◌≡◌, map, string_bytes, Result, IfErr, IfOk};
 ghost use Rattle.std.specs.Process.{exit_status};
-ghost use Rattle.reqs_ends.specs.Faults.{status_of};
+ghost use Rattle.reqs_io_faults.specs.Faults.{status_of};
 ghost use Rattle.reqs_command.specs.Exits.{status_after};
 ghost use Rattle.reqs_command.specs.Opened.{RunsOpened};
 ghost use Rattle.reqs_command.specs.Source.{IfFile, IsAboveStandard};
 ghost use Rattle.reqs_command.specs.Variables.{variables_in};
 
-use crate::asked::{Asked, format_of, matches};
 use crate::opened::{open_all, run_read};
+use crate::request::{Asked, format_of, matches};
 use crate::shown::{shown_fault, shown_lines, shown_text};
 use crate::source::{Source, open_file};
 use crate::variables::{entries, variables};
 use crate::words::{WordsFault, words};
 use clap::error::ErrorKind;
 use clap::{ArgMatches, Error};
-use reqs_ends::{Input, RunFault, Status};
+use reqs_io_faults::{Input, RunFault, Status};
 use reqs_json::{Format, fault_line, memory_line, usage_line};
 use std::alloc::{AllocError, Global};
 use std::io::{self, Read, Write};

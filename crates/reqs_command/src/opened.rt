@@ -3,10 +3,10 @@
 ghost use Rattle.std.specs.Prelude.{◌≡◌, map};
 ghost use Rattle.reqs_command.specs.Opened.{asked_of, readers_of, Opens, RunsAsked};
 
-use crate::asked::Asked;
+use crate::request::Asked;
 use pep508_url::Vars;
 use reqs_answers::{check, matrix};
-use reqs_ends::{Input, RunFault, Status};
+use reqs_io_faults::{Input, RunFault, Status};
 use reqs_json::Format;
 use reqs_lists::{conflicts, normal, same};
 use std::alloc::Global;

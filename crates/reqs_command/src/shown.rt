@@ -8,14 +8,14 @@
 
 ghost use Rattle.std.specs.Prelude.{◌≡◌, ◌++◌, ◌∷◌, map, take, IfOk, string_bytes, encode_utf8_all};
 ghost use Rattle.underline.specs.Underline.{underlined};
-ghost use Rattle.reqs_ends.specs.Ends.{of_input};
-ghost use Rattle.reqs_ends.specs.FaultText.{requirement_front};
+ghost use Rattle.reqs_io_faults.specs.Ends.{of_input};
+ghost use Rattle.reqs_io_faults.specs.FaultText.{requirement_front};
 ghost use Rattle.reqs_command.specs.Shown.{is_hidden, shown_char, shown_in_lines, shown_text, shown_lines};
 ghost use Rattle.reqs_command.specs.Shown.{shown_columns, shown_marks, IsShownRequirement, IsShownFault};
 
 use pep508_error::Pep508Error;
 use pep508_url::VerbatimUrl;
-use reqs_ends::RunFault;
+use reqs_io_faults::RunFault;
 use std::alloc::{AllocError, Global};
 use underline::{Underlined, columns};
 

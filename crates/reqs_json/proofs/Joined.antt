@@ -5,7 +5,7 @@ use Rattle.std.proofs.lemmas.Bool.{lt-ltb}
 use Rattle.serde_json.specs.Data.{Data, Items, no_items, item}
 use Rattle.serde_json.specs.Written.{compact_text, items_text, comma_if}
 use Rattle.serde_json.proofs.OnLiterals.{serde_json_on_literals}
-use Rattle.reqtable_text.specs.declared.candidates.Candidate.{Candidate}
+use Rattle.reqtable_candidates.specs.declared.candidates.Candidate.{Candidate}
 use Rattle.reqtable_answer.specs.Answer.{RowRecord}
 use Rattle.reqs_json.specs.Lines.{value_text, line_of}
 use Rattle.reqs_json.specs.Rows.{environment_value, environment_values, answers_value}

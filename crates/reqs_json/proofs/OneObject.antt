@@ -1,7 +1,7 @@
 -- The object of an answer.
 use Rattle.std.proofs.Common.{◌≡◌, ◌∙◌, ℕ, List, ap}
 use Rattle.pep508_requirement_text.specs.FrontReading.{Front}
-use Rattle.reqtable_text.specs.declared.candidates.Candidate.{Candidate}
+use Rattle.reqtable_candidates.specs.declared.candidates.Candidate.{Candidate}
 use Rattle.reqtable_answer.specs.Answer.{Admits, RowRecord, IsAnswer}
 use Rattle.reqtable_answer.proofs.OneAnswer.{one_answer}
 use Rattle.reqs_json.specs.declared.format.Format.TheVariants.{Json}

@@ -2,13 +2,13 @@
 use Rattle.std.proofs.Common.{◌≡◌, ◌∙◌, ◌++◌, List, ℕ, Option, Some, option_map, append_assoc, ap, refl}
 use Rattle.std.proofs.Common.{Result, Ok, Err, IfOk, IfSome, String, string_bytes}
 use Rattle.std.specs.Fmt.{◌++?◌}
-use Rattle.reqs_ends.specs.FaultText.{fault_text}
-use Rattle.reqs_ends.specs.declared.fault.Input.{Input}
-use Rattle.reqs_ends.specs.declared.fault.RunFault.{RunFault}
-use Rattle.reqs_ends.specs.declared.fault.RunFault.TheVariants.{Read, Write, Memory, TooLong, NotText, Extra}
-use Rattle.reqs_ends.specs.declared.fault.RunFault.TheVariants.{Requirement, NumberAtEnd, Json, Float, Shape}
-use Rattle.reqs_ends.specs.declared.fault.RunFault.TheVariants.{Member, Version, Candidate, TooManyCases}
-use Rattle.reqs_ends.specs.declared.fault.RunFault.TheVariants.{Refused}
+use Rattle.reqs_io_faults.specs.FaultText.{fault_text}
+use Rattle.reqs_io_faults.specs.declared.fault.Input.{Input}
+use Rattle.reqs_io_faults.specs.declared.fault.RunFault.{RunFault}
+use Rattle.reqs_io_faults.specs.declared.fault.RunFault.TheVariants.{Read, Write, Memory, TooLong, NotText, Extra}
+use Rattle.reqs_io_faults.specs.declared.fault.RunFault.TheVariants.{Requirement, NumberAtEnd, Json, Float, Shape}
+use Rattle.reqs_io_faults.specs.declared.fault.RunFault.TheVariants.{Member, Version, Candidate, TooManyCases}
+use Rattle.reqs_io_faults.specs.declared.fault.RunFault.TheVariants.{Refused}
 use Rattle.reqs_json.specs.Lines.{line_of}
 use Rattle.reqs_json.specs.Faults.{kind_of, input_in, place_in, message_of, place_text, error_value}
 use Rattle.reqs_json.specs.Faults.{IsFaultLine}

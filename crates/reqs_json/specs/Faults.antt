@@ -5,14 +5,16 @@ use Rattle.serde_json.specs.Data.{Data, string, object, no_members, member}
 use Rattle.pep508_environment.specs.Environment.{member_name}
 use Rattle.pep508_url.specs.UrlFaults.{url_error_text}
 use Rattle.pep508_error.specs.Errors.{error_text}
-use Rattle.reqtable_text.specs.Errors.{cause_text}
-use Rattle.reqs_ends.specs.declared.fault.Input.{Input}
-use Rattle.reqs_ends.specs.declared.fault.RunFault.{RunFault}
-use Rattle.reqs_ends.specs.declared.fault.RunFault.TheVariants.{Read, Write, Memory, TooLong, NotText, Extra}
-use Rattle.reqs_ends.specs.declared.fault.RunFault.TheVariants.{Requirement, NumberAtEnd, Json, Float, Shape}
-use Rattle.reqs_ends.specs.declared.fault.RunFault.TheVariants.{Member, Version, Candidate, TooManyCases}
-use Rattle.reqs_ends.specs.declared.fault.RunFault.TheVariants.{Refused}
-use Rattle.reqs_ends.specs.FaultText.{shape_text, refused_text, requirement_front}
+use Rattle.reqtable_candidates.specs.Errors.{cause_text}
+use Rattle.reqs_io_faults.specs.declared.fault.Input.{Input}
+use Rattle.reqs_io_faults.specs.declared.fault.RunFault.{RunFault}
+use Rattle.reqs_io_faults.specs.declared.fault.RunFault.TheVariants.{Read, Write, Memory, TooLong, NotText}
+use Rattle.reqs_io_faults.specs.declared.fault.RunFault.TheVariants.{Extra}
+use Rattle.reqs_io_faults.specs.declared.fault.RunFault.TheVariants.{Requirement, NumberAtEnd, Json, Float}
+use Rattle.reqs_io_faults.specs.declared.fault.RunFault.TheVariants.{Shape}
+use Rattle.reqs_io_faults.specs.declared.fault.RunFault.TheVariants.{Member, Version, Candidate, TooManyCases}
+use Rattle.reqs_io_faults.specs.declared.fault.RunFault.TheVariants.{Refused}
+use Rattle.reqs_io_faults.specs.FaultText.{shape_text, refused_text, requirement_front}
 use Rattle.reqs_json.specs.declared.faults.Place.{Place}
 use Rattle.reqs_json.specs.Lines.{number_of, value_or_null, line_of}
 

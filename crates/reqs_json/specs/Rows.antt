@@ -5,7 +5,7 @@ use Rattle.std.specs.List.{slice_get}
 use Rattle.pep440_version.specs.Print.{version_text}
 use Rattle.serde_json.specs.Data.{Data, null, string, array, object, no_members, member}
 use Rattle.serde_json.specs.Data.{Items, no_items, item}
-use Rattle.reqtable_text.specs.declared.candidates.Candidate.{Candidate}
+use Rattle.reqtable_candidates.specs.declared.candidates.Candidate.{Candidate}
 use Rattle.reqtable_answer.specs.declared.answer.Outcome.{Outcome}
 use Rattle.reqtable_answer.specs.declared.answer.Outcome.TheVariants.{Taken, Nothing, Direct}
 use Rattle.pep508_requirement_text.specs.FrontReading.{Front}

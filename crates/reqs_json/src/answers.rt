@@ -13,9 +13,9 @@ ghost use Rattle.reqs_json.specs.Rows.{outcome_word, version_value, package_valu
 ghost use Rattle.reqs_json.specs.Rows.{answer_value, environment_value, rows_text};
 
 use crate::format::Format;
-use crate::lines::{line_of, names_value, value_text};
+use crate::json_lines::{line_of, names_value, value_text};
 use reqtable_answer::{Answer, Outcome, Row};
-use reqtable_text::{Candidate, Candidates};
+use reqtable_candidates::{Candidate, Candidates};
 use serde_json::{Value, json};
 use std::alloc::{AllocError, Global};
 

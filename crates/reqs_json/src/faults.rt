@@ -6,16 +6,16 @@
 ghost use Rattle.std.specs.Prelude.{◌≡◌, ◌++◌, map, codes, None, IfOk, option_map, string_bytes};
 ghost use Rattle.serde_json.specs.Data.{string};
 ghost use Rattle.serde_json.specs.View.{view};
-ghost use Rattle.reqs_ends.specs.Ends.{of_input};
-ghost use Rattle.reqs_ends.specs.declared.fault.RunFault.TheVariants.{Memory};
+ghost use Rattle.reqs_io_faults.specs.Ends.{of_input};
+ghost use Rattle.reqs_io_faults.specs.declared.fault.RunFault.TheVariants.{Memory};
 ghost use Rattle.reqs_json.specs.Lines.{number_of, value_or_null, line_of};
 ghost use Rattle.reqs_json.specs.Faults.{kind_of, input_in, line_in, start_in, length_in, place_in};
 ghost use Rattle.reqs_json.specs.Faults.{nowhere, usage_value};
 ghost use Rattle.reqs_json.specs.Faults.{error_members, error_value, fault_value, IsFaultLine};
 
-use crate::lines::line_of;
+use crate::json_lines::line_of;
 use crate::messages::message_of;
-use reqs_ends::{Input, RunFault};
+use reqs_io_faults::{Input, RunFault};
 use serde_json::{Value, json};
 use std::alloc::{AllocError, Global};
 
@@ -72,7 +72,8 @@ pub fn usage_line(alloc: Global, message: &str) -> Result<String, AllocError>
 pub fn memory_line() -> &'static str
     ensures { result.now ≡ line_of (error_value (kind_of Memory) (codes "out of memory") None nowhere) }
 {
-    "{\"error\":{\"kind\":\"memory\",\"length\":null,\"line\":null,\"message\":\"out of memory\",\"path\":null,\"start\":null}}\n"
+    "{\"error\":{\"kind\":\"memory\",\"length\":null,\"line\":null,\"message\":\"out of memory\",\
+        \"path\":null,\"start\":null}}\n"
 }
 
 /// The object, on a line, of a fault of this kind with this message.

@@ -2,9 +2,9 @@
 
 ghost use Rattle.std.specs.Prelude.{◌≡◌, ℕ, List, Some};
 ghost use Rattle.std.specs.Fmt.{◌++?◌};
-ghost use Rattle.reqs_ends.specs.FaultText.{fault_text};
-ghost use Rattle.reqs_ends.specs.declared.fault.Input.{Input};
-ghost use Rattle.reqs_ends.specs.declared.fault.RunFault.{RunFault};
+ghost use Rattle.reqs_io_faults.specs.FaultText.{fault_text};
+ghost use Rattle.reqs_io_faults.specs.declared.fault.Input.{Input};
+ghost use Rattle.reqs_io_faults.specs.declared.fault.RunFault.{RunFault};
 ghost use Rattle.reqs_json.specs.Faults.{message_of, place_text};
 
 /// The text of a fault is its place followed by its message.

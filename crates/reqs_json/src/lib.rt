@@ -8,11 +8,11 @@
 mod answers;
 mod faults;
 mod format;
+mod json_lines;
 pub mod laws;
-mod lines;
 mod messages;
 
 pub use answers::{answer_text, environment_text};
 pub use faults::{fault_line, memory_line, usage_line};
 pub use format::Format;
-pub use lines::{line_of, lines_value, numbers_value};
+pub use json_lines::{line_of, lines_value, numbers_value};

@@ -3,13 +3,13 @@
 ghost use Rattle.std.specs.Prelude.{◌≡◌, ◌++◌, codes, string_bytes, IfOk, IfSome};
 ghost use Rattle.std.specs.Fmt.{decimal};
 ghost use Rattle.pep508_environment.specs.Environment.{member_name};
-ghost use Rattle.reqs_ends.specs.Faults.{IsOfEnvironment};
-ghost use Rattle.reqs_ends.specs.FaultText.{shape_text};
+ghost use Rattle.reqs_io_faults.specs.Faults.{IsOfEnvironment};
+ghost use Rattle.reqs_io_faults.specs.FaultText.{shape_text};
 ghost use Rattle.reqs_json.specs.Faults.{member_message, message_of};
 
 use pep508_environment::EnvironmentMember;
 use pep508_name::PackageName;
-use reqs_ends::{JsonShape, RunFault};
+use reqs_io_faults::{JsonShape, RunFault};
 use std::alloc::{AllocError, Global};
 
 /// The message for a fault: what follows its place in `RunFault::text`.

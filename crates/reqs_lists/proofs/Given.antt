@@ -2,11 +2,11 @@
 use Rattle.std.proofs.Common.{◌≡◌, inl, inr, ℕ, List, [], ◌∷◌, Result, Ok, Err, refl, sym, subst}
 use Rattle.pep508_url.specs.Vars.{Variables}
 use Rattle.reqtable_requirements.specs.LineReading.{LineRecord}
-use Rattle.reqs_ends.specs.declared.fault.Input.TheVariants.{First, Second}
-use Rattle.reqs_ends.specs.declared.fault.RunFault.{RunFault}
-use Rattle.reqs_ends.specs.declared.fault.RunFault.TheVariants.{Memory}
-use Rattle.reqs_ends.specs.Faults.{Cause, Refuses}
-use Rattle.reqs_ends.specs.Inputs.{lines_from}
+use Rattle.reqs_io_faults.specs.declared.fault.Input.TheVariants.{First, Second}
+use Rattle.reqs_io_faults.specs.declared.fault.RunFault.{RunFault}
+use Rattle.reqs_io_faults.specs.declared.fault.RunFault.TheVariants.{Memory}
+use Rattle.reqs_io_faults.specs.Faults.{Cause, Refuses}
+use Rattle.reqs_io_faults.specs.Inputs.{lines_from}
 use Rattle.reqs_lists.specs.declared.answer.Answer.{Answer}
 use Rattle.reqs_lists.specs.Lists.{two_lists, Answered, Refused, Gives, AnswersLists}
 

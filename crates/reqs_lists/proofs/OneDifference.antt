@@ -10,7 +10,7 @@ use Rattle.pep508_diagram.specs.Diagram.{Diagram}
 use Rattle.pep508_diagram.specs.Question.{Question, Valuation}
 use Rattle.pep508_tree.specs.Tree.{Tree}
 use Rattle.pep508_tree.specs.Meaning.{NodeRecord, holds}
-use Rattle.pep508_marker_text.proofs.Spelled.{one_spelling}
+use Rattle.pep508_marker_text_laws.proofs.Spelled.{one_spelling}
 use Rattle.pep508_cases.specs.Cases.{Marks, same_marks, marks_cmp}
 use Rattle.pep508_cases.proofs.Counting.{marks_total}
 use Rattle.pep508_cases.proofs.Marks.{marks_is}

@@ -5,7 +5,7 @@ use Rattle.serde_json.specs.Data.{string}
 use Rattle.serde_json.specs.Written.{has_float}
 use Rattle.pep508_diagram.specs.Diagram.{Diagram}
 use Rattle.pep508_diagram.specs.Question.{Question}
-use Rattle.pep508_marker_text.specs.MarkerText.{marker_text}
+use Rattle.pep508_marker_text_laws.specs.MarkerText.{marker_text}
 use Rattle.reqtable_conflicts.specs.Contradictions.{ConflictRecord}
 use Rattle.reqs_json.proofs.Plain.{plain_items, plain_numbers, plain_texts, plain_or_null}
 use Rattle.reqs_lists.specs.Comparison.{difference_value}

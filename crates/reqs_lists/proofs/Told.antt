@@ -2,7 +2,7 @@
 use Rattle.std.proofs.Common.{inl, inr, ℕ, List, Option, Result, Err, sym, subst}
 use Rattle.std.specs.List.{AllZip}
 use Rattle.pep508_url.specs.Vars.{Variables}
-use Rattle.reqtable_text.specs.TextLines.{text_lines}
+use Rattle.reqtable_candidates.specs.TextLines.{text_lines}
 use Rattle.reqtable_requirements.specs.LineReading.{LineRecord}
 use Rattle.reqtable_requirements.specs.Requirements.{IsErrorIn}
 use Rattle.reqtable_compare.specs.declared.sides.LineCause.{LineCause}
@@ -11,11 +11,11 @@ use Rattle.reqtable_compare.specs.declared.sides.SameError.{SameError}
 use Rattle.reqtable_compare.specs.declared.sides.SameError.TheVariants as errors
 use Rattle.reqs_io.specs.Front.{AreAsTold}
 use Rattle.reqs_json.specs.declared.format.Format.{Format}
-use Rattle.reqs_ends.specs.declared.fault.Input.{Input}
-use Rattle.reqs_ends.specs.declared.fault.RunFault.{RunFault}
-use Rattle.reqs_ends.specs.Ends.{AreWithin, of_input, Answering, Runs}
-use Rattle.reqs_ends.specs.Faults.{Cause}
-use Rattle.reqs_ends.proofs.Steps.{texts_refused}
+use Rattle.reqs_io_faults.specs.declared.fault.Input.{Input}
+use Rattle.reqs_io_faults.specs.declared.fault.RunFault.{RunFault}
+use Rattle.reqs_io_faults.specs.Ends.{AreWithin, of_input, Answering, Runs}
+use Rattle.reqs_io_faults.specs.Faults.{Cause}
+use Rattle.reqs_io_faults.proofs.Steps.{texts_refused}
 use Rattle.reqs_lists.specs.Comparison.{Lists, input_of, line_fault, fault_of, CantBeCompared}
 use Rattle.reqs_lists.specs.Comparison.{SameAnswersAs, SameRefuses}
 use Rattle.reqs_lists.specs.Contradictions.{HasTooManyCases, ConflictsAnswerAs, ConflictsRefuse}

@@ -8,7 +8,7 @@ use Rattle.pep508_diagram.specs.Question.{Question, Valuation, truth, IsCanonica
 use Rattle.pep508_diagram.specs.Shortened.{HasShortVersions}
 use Rattle.pep508_tree.specs.Tree.{Tree}
 use Rattle.pep508_tree.specs.Meaning.{NodeRecord, holds}
-use Rattle.pep508_marker_text.specs.MarkerText.{marker_text}
+use Rattle.pep508_marker_text_laws.specs.MarkerText.{marker_text}
 use Rattle.reqtable_requirements.specs.LineReading.{LineRecord}
 use Rattle.reqtable_cases.specs.Requires.{RequireTheSame, IsFirstDifference}
 use Rattle.reqtable_compare.specs.Compared.{MayCompare, Compares}
@@ -21,14 +21,14 @@ use Rattle.reqtable_compare.specs.declared.sides.Side.TheVariants.{Left, Right}
 use Rattle.reqs_json.specs.declared.format.Format.{Format}
 use Rattle.reqs_json.specs.declared.format.Format.TheVariants.{Text, Json}
 use Rattle.reqs_json.specs.Lines.{value_or_null, line_of}
-use Rattle.reqs_ends.specs.declared.fault.Input.{Input}
-use Rattle.reqs_ends.specs.declared.fault.Input.TheVariants.{First, Second}
-use Rattle.reqs_ends.specs.declared.fault.RefusedCause.TheVariants as refused
-use Rattle.reqs_ends.specs.declared.fault.RunFault.{RunFault}
-use Rattle.reqs_ends.specs.declared.fault.RunFault.TheVariants as run
-use Rattle.reqs_ends.specs.declared.fault.Status.{Status}
-use Rattle.reqs_ends.specs.declared.fault.Status.TheVariants as status
-use Rattle.reqs_ends.specs.Ends.{Runs}
+use Rattle.reqs_io_faults.specs.declared.fault.Input.{Input}
+use Rattle.reqs_io_faults.specs.declared.fault.Input.TheVariants.{First, Second}
+use Rattle.reqs_io_faults.specs.declared.fault.RefusedCause.TheVariants as refused
+use Rattle.reqs_io_faults.specs.declared.fault.RunFault.{RunFault}
+use Rattle.reqs_io_faults.specs.declared.fault.RunFault.TheVariants as run
+use Rattle.reqs_io_faults.specs.declared.fault.Status.{Status}
+use Rattle.reqs_io_faults.specs.declared.fault.Status.TheVariants as status
+use Rattle.reqs_io_faults.specs.Ends.{Runs}
 use Rattle.reqs_lists.specs.Lists.{IsOfLists, two_lists, IsRead, RefusesLists}
 
 -- what two lists require

@@ -10,12 +10,12 @@ use Rattle.reqtable_conflicts.specs.Contradictions.{ConflictRecord, FindsConflic
 use Rattle.reqs_json.specs.declared.format.Format.{Format}
 use Rattle.reqs_json.specs.declared.format.Format.TheVariants.{Text, Json}
 use Rattle.reqs_json.specs.Lines.{array_of, number_of, line_of}
-use Rattle.reqs_ends.specs.declared.fault.Input.TheVariants.{First}
-use Rattle.reqs_ends.specs.declared.fault.RunFault.{RunFault}
-use Rattle.reqs_ends.specs.declared.fault.RunFault.TheVariants as run
-use Rattle.reqs_ends.specs.declared.fault.Status.{Status}
-use Rattle.reqs_ends.specs.declared.fault.Status.TheVariants as status
-use Rattle.reqs_ends.specs.Ends.{Runs}
+use Rattle.reqs_io_faults.specs.declared.fault.Input.TheVariants.{First}
+use Rattle.reqs_io_faults.specs.declared.fault.RunFault.{RunFault}
+use Rattle.reqs_io_faults.specs.declared.fault.RunFault.TheVariants as run
+use Rattle.reqs_io_faults.specs.declared.fault.Status.{Status}
+use Rattle.reqs_io_faults.specs.declared.fault.Status.TheVariants as status
+use Rattle.reqs_io_faults.specs.Ends.{Runs}
 use Rattle.reqs_lists.specs.Lists.{IsOfLists, one_list, IsRead, RefusesLists}
 
 -- ---- the text

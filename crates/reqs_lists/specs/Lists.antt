@@ -4,17 +4,17 @@ use Rattle.std.specs.List.{AllZip}
 use Rattle.std.specs.String.{string_bytes}
 use Rattle.pep508_url.specs.Vars.{Variables}
 use Rattle.pep508_tree.specs.Meaning.{NodeRecord}
-use Rattle.reqtable_text.specs.TextLines.{text_lines}
+use Rattle.reqtable_candidates.specs.TextLines.{text_lines}
 use Rattle.reqtable_requirements.specs.LineReading.{LineRecord}
 use Rattle.reqtable_requirements.specs.Requirements.{IsErrorIn, StandsFor}
 use Rattle.reqtable_requirements.specs.declared.requirements.Line.{Line}
-use Rattle.reqs_ends.specs.declared.fault.Input.TheVariants.{First, Second}
-use Rattle.reqs_ends.specs.declared.fault.RunFault.{RunFault}
-use Rattle.reqs_ends.specs.declared.fault.RunFault.TheVariants.{Memory}
-use Rattle.reqs_ends.specs.declared.fault.Status.{Status}
-use Rattle.reqs_ends.specs.Ends.{of_input}
-use Rattle.reqs_ends.specs.Faults.{Cause, IsOfInputs, Refuses}
-use Rattle.reqs_ends.specs.Inputs.{◌>>=◌, lines_from}
+use Rattle.reqs_io_faults.specs.declared.fault.Input.TheVariants.{First, Second}
+use Rattle.reqs_io_faults.specs.declared.fault.RunFault.{RunFault}
+use Rattle.reqs_io_faults.specs.declared.fault.RunFault.TheVariants.{Memory}
+use Rattle.reqs_io_faults.specs.declared.fault.Status.{Status}
+use Rattle.reqs_io_faults.specs.Ends.{of_input}
+use Rattle.reqs_io_faults.specs.Faults.{Cause, IsOfInputs, Refuses}
+use Rattle.reqs_io_faults.specs.Inputs.{◌>>=◌, lines_from}
 use Rattle.reqs_lists.specs.declared.answer.Answer.{Answer}
 
 -- the fault is in texts each of which is a list of requirements: its error of an invalid line is that of some

@@ -14,18 +14,18 @@ ghost use Rattle.reqtable_requirements.specs.Requirements.{StandsFor};
 ghost use Rattle.reqs_lists.specs.Lists.{IsOfLists, AreBothRead, AnswersLists, Gives, two_lists};
 ghost use Rattle.serde_json.specs.View.{view};
 ghost use Rattle.serde_json.specs.Data.{string};
-ghost use Rattle.pep508_marker_text.specs.MarkerText.{marker_text};
+ghost use Rattle.pep508_marker_text_laws.specs.MarkerText.{marker_text};
 ghost use Rattle.reqs_json.specs.Lines.{line_of, value_or_null};
 ghost use Rattle.reqs_lists.specs.Comparison.{difference_text, IsSameAnswer, CantBeCompared};
 ghost use Rattle.reqs_lists.specs.Comparison.{same_value, difference_value, same_in, difference_in};
 ghost use Rattle.reqs_lists.specs.Comparison.{input_of, line_fault, fault_of, RunsSame};
 
 use crate::answer::Answer;
-use pep508_marker_dnf::MarkerTreeText;
+use pep508_marker_display::MarkerTreeText;
 use pep508_name::PackageName;
 use pep508_tree::{Interner, MarkerTree};
 use pep508_url::Vars;
-use reqs_ends::{
+use reqs_io_faults::{
     Input, RefusedCause, RunFault, Status, read_input, read_requirements, write_answer,
 };
 use reqs_json::{Format, line_of};

@@ -8,7 +8,7 @@ ghost use Rattle.reqtable_cases.specs.Requires.{RequireTheSame};
 ghost use Rattle.reqtable_compare.specs.Compared.{MayCompare};
 ghost use Rattle.reqtable_conflicts.specs.Contradictions.{ConflictRecord, FindsConflicts};
 ghost use Rattle.reqtable_normal.specs.Normalized.{IsNormalText};
-ghost use Rattle.reqs_ends.specs.declared.fault.Status.{Status};
+ghost use Rattle.reqs_io_faults.specs.declared.fault.Status.{Status};
 ghost use Rattle.reqs_json.specs.declared.format.Format.TheVariants.{Text, Json};
 ghost use Rattle.reqs_json.specs.Lines.{line_of};
 ghost use Rattle.reqs_lists.specs.Comparison.{SameAnswersAs, IsToldDifference, difference_text};

@@ -8,8 +8,8 @@ ghost use Rattle.pep508_url.specs.Vars.{Variables};
 ghost use Rattle.reqtable_requirements.specs.Asks.{AreOfNodes};
 ghost use Rattle.reqtable_requirements.specs.LineReading.{LineRecord};
 ghost use Rattle.reqtable_requirements.specs.Requirements.{StandsFor};
-ghost use Rattle.reqs_ends.specs.declared.fault.Input.TheVariants.{First};
-ghost use Rattle.reqs_ends.specs.Inputs.{lines_from};
+ghost use Rattle.reqs_io_faults.specs.declared.fault.Input.TheVariants.{First};
+ghost use Rattle.reqs_io_faults.specs.Inputs.{lines_from};
 ghost use Rattle.reqs_lists.specs.Lists.{IsOfLists, AnswersLists, Gives};
 ghost use Rattle.serde_json.specs.View.{view};
 ghost use Rattle.reqs_json.specs.Lines.{line_of};
@@ -19,7 +19,7 @@ ghost use Rattle.reqs_lists.specs.Normal.{normal_value, normal_in};
 use crate::answer::Answer;
 use pep508_tree::Interner;
 use pep508_url::Vars;
-use reqs_ends::{
+use reqs_io_faults::{
     Input, RefusedCause, RunFault, Status, read_input, read_requirements, write_answer,
 };
 use reqs_json::{Format, line_of, lines_value};

@@ -4,8 +4,8 @@ use Rattle.std.specs.Prelude.{List}
 use Rattle.pep508_diagram.specs.Question.{Valuation}
 use Rattle.pep508_evaluation.specs.Valuations.{valuation_of}
 use Rattle.pep508_tree.specs.Meaning.{NodeRecord}
-use Rattle.reqtable_text.specs.declared.candidates.Candidate.{Candidate}
-use Rattle.reqs_rows.specs.declared.asked.Asked.{Asked}
+use Rattle.reqtable_candidates.specs.declared.candidates.Candidate.{Candidate}
+use Rattle.reqs_rows.specs.declared.row_query.Asked.{Asked}
 
 abbrev pub nodes_in : Asked → List NodeRecord
 nodes_in asked = asked.interner.now.nodes

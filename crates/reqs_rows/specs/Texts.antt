@@ -5,7 +5,7 @@ use Rattle.std.specs.Borrow.{Bor}
 use Rattle.pep440_version.specs.Record.{VersionRecord}
 use Rattle.pep508_diagram.specs.Question.{Valuation}
 use Rattle.pep508_tree.specs.Meaning.{NodeRecord}
-use Rattle.reqtable_text.specs.declared.candidates.Candidate.{Candidate}
+use Rattle.reqtable_candidates.specs.declared.candidates.Candidate.{Candidate}
 use Rattle.reqtable_answer.specs.Admission.{Admits, AnswersBy}
 use Rattle.pep508_requirement_text.specs.FrontReading.{Front}
 use Rattle.reqtable_answer.specs.Answer.{RowRecord, IsAnswer, row_text, answer_text}

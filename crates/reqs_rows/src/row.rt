@@ -16,13 +16,13 @@ ghost use Rattle.reqs_rows.specs.Asked.{nodes_in, valuation_in, candidates_in};
 ghost use Rattle.reqs_rows.specs.Seen.{pieces_of};
 ghost use Rattle.reqs_rows.specs.Texts.{IsKnown, Grow, PutsRow};
 
-use crate::asked::Asked;
 use crate::known::{Known, keep, piece_at, reach};
+use crate::row_query::Asked;
 use pep440_version::Version;
 use reqs_pieces::Pieces;
 use reqtable_answer::{Admission, Answer, Row};
+use reqtable_candidates::Candidates;
 use reqtable_table::{Runs, Table};
-use reqtable_text::Candidates;
 use std::alloc::{AllocError, Global};
 
 /// Appends the row of the package at an index to the text, in its active case, or nothing if no line of it

@@ -23,17 +23,17 @@ ghost use Rattle.reqs_rows.specs.Asked.{nodes_in, valuation_in, candidates_in};
 ghost use Rattle.reqs_rows.specs.Seen.{pieces_of};
 ghost use Rattle.reqs_rows.specs.Texts.{AreKnown, PutsAnswer, PutsRows};
 
-use crate::asked::Asked;
 use crate::known::Known;
 use crate::row::put_row;
+use crate::row_query::Asked;
 use pep440_version::Version;
 use pep508_environment::MarkerEnvironment;
 use pep508_name::ExtraName;
 use pep508_tree::Interner;
 use reqs_pieces::Pieces;
 use reqtable_answer::Admission;
+use reqtable_candidates::Candidates;
 use reqtable_table::{Runs, Table};
-use reqtable_text::Candidates;
 use std::alloc::{AllocError, Global};
 use std::marker::Model;
 

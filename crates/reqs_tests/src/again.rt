@@ -16,9 +16,9 @@ use pep508_environment::MarkerEnvironment;
 use pep508_tree::Interner;
 use pep508_url::Vars;
 use reqtable_answer::{Admission, Answer};
+use reqtable_candidates::Candidates;
 use reqtable_requirements::Requirements;
 use reqtable_table::{Table, TableError};
-use reqtable_text::Candidates;
 use std::alloc::{AllocError, Global};
 
 /// The answers for two environments, one after the other.

@@ -5,7 +5,7 @@
 use crate::faulty::{Inlet, Manner, Outlet};
 use pep508_url::Vars;
 use reqs_answers::{check, matrix};
-use reqs_ends::{RunFault, Status};
+use reqs_io_faults::{RunFault, Status};
 use reqs_json::Format;
 use reqs_lists::{conflicts, normal, same};
 use std::alloc::{AllocError, Global};

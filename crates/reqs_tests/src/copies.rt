@@ -2,9 +2,9 @@
 
 use crate::lists::{answer_of, lists_of};
 use reqtable_answer::{Answer, Row};
+use reqtable_candidates::{Candidate, Candidates};
 use reqtable_packages::package_names;
 use reqtable_requirements::{Line, Requirements, copied_packages};
-use reqtable_text::{Candidate, Candidates};
 use std::alloc::{AllocError, Global};
 use std::test::Fail;
 

@@ -1,8 +1,11 @@
-//! The conjunctions that a table counts: two for each set of lines that a line's marker divides.
+//! What tables and interners count: conjunctions, of which a table makes none, since cases come from one
+//! diagram; and nodes.
 
+use pep508_marker::Silent;
+use pep508_marker_parser::{parse_formula, tree_of};
 use pep508_name::PackageName;
 use pep508_tree::Interner;
-use pep508_url::Vars;
+use pep508_url::{Vars, VerbatimUrl};
 use reqtable_requirements::Requirements;
 use reqtable_table::{Table, TableError};
 use std::alloc::{AllocError, Global};
@@ -46,20 +49,43 @@ fn counted_of(alloc: Global, lines: u32, key: &str, limit: u64) -> Result<String
     counted(alloc, &text, limit)
 }
 
-// A text that one key has divides the set that no earlier line has; an extra divides each set. By
-// `2 * lines * limit` there may be 840, 98,304, 106,496 and 327,680.
+// By `2 * lines * limit` there may be 840, 98,304, 106,496 and 327,680.
 #[test]
-fn a_table_counts_two_conjunctions_for_each_set_that_a_line_divides(
-    rt: HostRuntime,
-) -> Result<(), Fail> {
+fn a_table_counts_no_conjunction(rt: HostRuntime) -> Result<(), Fail> {
     for (lines, key, limit, wanted) in [
-        (20, "os_name", 21, "21 cases, 40"),
-        (20, "os_name", 20, "too many: foo, 40"),
-        (12, "extra", 4096, "4096 cases, 8190"),
-        (13, "extra", 4096, "too many: foo, 16382"),
-        (40, "extra", 4096, "too many: foo, 16382"),
+        (20, "os_name", 21, "21 cases, 0"),
+        (20, "os_name", 20, "too many: foo, 0"),
+        (12, "extra", 4096, "4096 cases, 0"),
+        (13, "extra", 4096, "too many: foo, 0"),
+        (40, "extra", 4096, "too many: foo, 0"),
     ] {
         assert_eq!(rt; counted_of(rt.alloc(), lines, key, limit)?.as_str(), wanted);
+    }
+    Ok(())
+}
+
+/// Whether the tree of a marker with two comparisons is made in an interner of at most so many nodes, and how
+/// many nodes there are then.
+fn made_within(alloc: Global, most: usize) -> Result<(bool, usize), AllocError> {
+    let text = "os_name == 'a' and sys_platform == 'b'";
+    let read = parse_formula::<VerbatimUrl, Silent>(alloc, text, &mut Silent);
+    let formula = read.or(Err(AllocError))?;
+    let mut interner = Interner::with_most(alloc, most);
+    let is_made = tree_of(alloc, &mut interner, &formula).is_ok();
+    Ok((is_made, interner.node_count()))
+}
+
+// A node for each comparison, and one for both. By the third a caller knows that two didn't suffice.
+#[test]
+fn an_interner_stops_one_node_past_its_most(rt: HostRuntime) -> Result<(), Fail> {
+    for (most, wanted) in [
+        (0, (false, 1)),
+        (1, (false, 2)),
+        (2, (true, 3)),
+        (3, (true, 3)),
+        (4, (true, 3)),
+    ] {
+        assert_eq!(rt; made_within(rt.alloc(), most)?, wanted);
     }
     Ok(())
 }

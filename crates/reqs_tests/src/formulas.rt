@@ -2,20 +2,20 @@
 
 use crate::tables::environment;
 use pep440_version::Version;
+use pep508_comparison_parser::parse_expression;
 use pep508_environment::MarkerEnvironment;
 use pep508_evaluation::MarkerTreeEvaluation;
 use pep508_formula::{FormulaPart, MarkerFormula, Parts};
 use pep508_formula_truth::holds_in;
 use pep508_marker::{MarkerExpression, Silent};
-use pep508_marker_comparison::parse_expression;
-use pep508_marker_read::{parse_formula, tree_of};
+use pep508_marker_parser::{parse_formula, tree_of};
 use pep508_name::ExtraName;
 use pep508_requirement::MarkedRequirement;
 use pep508_tree::Interner;
 use pep508_url::{Vars, VerbatimUrl};
 use reqtable_answer::{Admission, answer_to, ask_of_marked};
+use reqtable_candidates::Candidates;
 use reqtable_requirements::{MarkedLines, Requirements};
-use reqtable_text::Candidates;
 use std::alloc::{AllocError, Global};
 use std::fmt::Write;
 use std::test::Fail;

@@ -1,10 +1,10 @@
-pub use Rattle.reqtable_text.specs.TextLines
-pub use Rattle.reqtable_text.specs.CandidateLine
-pub use Rattle.reqtable_text.specs.CandidateText
-pub use Rattle.reqtable_text.specs.Candidates
-pub use Rattle.reqtable_text.specs.Errors as CandidateErrors
-pub use Rattle.reqtable_text.specs.Ordered
-pub use Rattle.reqtable_run.specs.Told
+pub use Rattle.reqtable_candidates.specs.TextLines
+pub use Rattle.reqtable_candidates.specs.CandidateLine
+pub use Rattle.reqtable_candidates.specs.CandidateText
+pub use Rattle.reqtable_candidates.specs.Candidates
+pub use Rattle.reqtable_candidates.specs.Errors as CandidateErrors
+pub use Rattle.reqtable_candidates.specs.Ordered
+pub use Rattle.reqtable_search.specs.Told
 pub use Rattle.reqtable_range.specs.Together
 pub use Rattle.reqtable_answer.specs.Admission
 pub use Rattle.reqtable_answer.specs.Asks

@@ -2,10 +2,10 @@
 
 pub use pep508_cases::laws as marks;
 pub use reqtable_answer::laws as answers;
+pub use reqtable_candidates::laws as candidate_lists;
 pub use reqtable_cases::laws as cases;
 pub use reqtable_compare::laws as comparisons;
 pub use reqtable_conflicts::laws as contradictions;
 pub use reqtable_normal::laws as normal_texts;
 pub use reqtable_requirements::laws as requirement_lists;
 pub use reqtable_table_laws as tables;
-pub use reqtable_text::laws as candidate_lists;

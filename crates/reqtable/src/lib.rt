@@ -56,9 +56,11 @@ pub use pep508_rs;
 pub use reqtable_answer::{
     Admission, Answer, Ask, AskSource, Outcome, Row, answer_to, ask_of, ask_of_marked,
 };
+pub use reqtable_candidates::{
+    Candidate, CandidateFault, Candidates, CandidatesError, Ordered, Placed,
+};
 pub use reqtable_compare::{LineCause, Same, SameError, Side, same};
 pub use reqtable_conflicts::{Conflict, conflicts};
 pub use reqtable_normal::{NormalCause, NormalError, normal};
 pub use reqtable_requirements::{Line, MarkedLine, MarkedLines, Requirements, RequirementsError};
 pub use reqtable_table::{Case, Runs, Table, TableError};
-pub use reqtable_text::{Candidate, CandidateFault, Candidates, CandidatesError, Ordered, Placed};

@@ -7,7 +7,7 @@ use Rattle.std.proofs.lemmas.List.Sorted.{list_any-IsPermutation}
 use Rattle.reqtable_answer.proofs.Tests.{any_kept, all_any}
 use Rattle.pep440_version.specs.Record.{VersionRecord}
 use Rattle.pep508_requirement_text.specs.FrontReading.{Front}
-use Rattle.reqtable_text.specs.declared.candidates.Candidate.{Candidate}
+use Rattle.reqtable_candidates.specs.declared.candidates.Candidate.{Candidate}
 use Rattle.reqtable_answer.specs.Asks.{is_of, has_extra, has_url, ask_takes, has_prerelease, names_prerelease}
 use Rattle.reqtable_answer.specs.Asks.{is_candidate}
 use Rattle.reqtable_answer.specs.Answer.{Admits, RowRecord, IsRowOf, IsRow, IsAnswer, outcome_of, chosen}

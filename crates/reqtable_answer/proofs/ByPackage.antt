@@ -11,7 +11,7 @@ use Rattle.std.specs.Map.{update}
 use Rattle.std.specs.Option.{option_map_or}
 use Rattle.std.specs.BTreeMap.{BTreeMap}
 use Rattle.pep508_requirement_text.specs.FrontReading.{Front}
-use Rattle.reqtable_text.specs.declared.candidates.Candidate.{Candidate}
+use Rattle.reqtable_candidates.specs.declared.candidates.Candidate.{Candidate}
 use Rattle.reqtable_answer.specs.declared.choosing.Numbered.{Numbered}
 use Rattle.reqtable_answer.specs.declared.grouping.Group.{Group}
 use Rattle.reqtable_answer.specs.declared.lent.Ask.{Ask}

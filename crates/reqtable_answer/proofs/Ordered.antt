@@ -16,8 +16,8 @@ use Rattle.std.proofs.lemmas.List.Kept.{IsStrictlySortedBy-filter}
 use Rattle.std.proofs.lemmas.List.Sorted.{All-permutation, Contains-permutation, length_permutation}
 use Rattle.std.proofs.lemmas.List.Sorted.{IsPermutation-refl, IsPermutation-trans, IsPermutation-cons}
 use Rattle.std.proofs.lemmas.List.Sorted.{IsPermutation-middle, IsPermutation-keeps}
-use Rattle.reqtable_text.specs.declared.candidates.Candidate.{Candidate}
-use Rattle.reqtable_text.specs.Ordered.{order_cmp, AreInOrder}
+use Rattle.reqtable_candidates.specs.declared.candidates.Candidate.{Candidate}
+use Rattle.reqtable_candidates.specs.Ordered.{order_cmp, AreInOrder}
 use Rattle.reqtable_answer.specs.Asks.{is_candidate}
 use Rattle.reqtable_answer.specs.Answer.{first_greatest, by_version}
 use Rattle.reqtable_answer.proofs.Tests.{same_bytes}

@@ -11,7 +11,7 @@ ghost use Rattle.reqtable_answer.specs.Answer.{row_text, extras_text, outcome_te
 ghost use Rattle.reqtable_answer.specs.Rows.{row_seen, IsTakenBelow};
 
 use pep508_name::{ExtraName, PackageName};
-use reqtable_text::{Candidate, Candidates};
+use reqtable_candidates::{Candidate, Candidates};
 use std::alloc::{AllocError, Global};
 use std::fmt::Write;
 

@@ -22,7 +22,7 @@ use crate::extras::extras_of;
 use crate::grouping::by_package;
 use crate::lent::Ask;
 use pep440_version::Version;
-use reqtable_text::Candidates;
+use reqtable_candidates::Candidates;
 use std::alloc::{AllocError, Global};
 
 /// The answer to these requirements: a row for each package that one of them names.

@@ -18,8 +18,8 @@ use crate::asking::{is_direct, may_be_taken, names_prerelease};
 use crate::lent::Ask;
 use crate::ranged::range_of;
 use pep440_version::Version;
+use reqtable_candidates::Candidate;
 use reqtable_range::OneRange;
-use reqtable_text::Candidate;
 use std::alloc::{AllocError, Global};
 
 /// A candidate with its index in the candidate list.

@@ -10,7 +10,7 @@ ghost use Rattle.reqtable_answer.specs.Says.{ask_seen, asks_seen};
 
 use crate::choosing::Numbered;
 use crate::lent::Ask;
-use reqtable_text::Candidate;
+use reqtable_candidates::Candidate;
 use std::alloc::{AllocError, Global};
 use std::collections::BTreeMap;
 

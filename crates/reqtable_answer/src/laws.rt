@@ -4,7 +4,7 @@ ghost use Rattle.std.specs.Prelude.{◌≡◌, ℕ, List, filter};
 ghost use Rattle.std.specs.List.Sorted.{IsPermutation};
 ghost use Rattle.std.specs.Str.{bytes_eq};
 ghost use Rattle.pep508_requirement_text.specs.FrontReading.{Front};
-ghost use Rattle.reqtable_text.specs.declared.candidates.Candidate.{Candidate};
+ghost use Rattle.reqtable_candidates.specs.declared.candidates.Candidate.{Candidate};
 ghost use Rattle.reqtable_answer.specs.Asks.{is_of};
 ghost use Rattle.reqtable_answer.specs.Answer.{Admits, RowRecord, IsRow, IsAnswer, IsAnswerText, row_text};
 

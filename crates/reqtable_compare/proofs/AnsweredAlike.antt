@@ -8,7 +8,7 @@ use Rattle.version_ranges.specs.Point.{At}
 use Rattle.pep440_version.specs.Record.{VersionRecord}
 use Rattle.pep508_diagram.specs.Question.{Valuation}
 use Rattle.pep508_requirement_text.specs.FrontReading.{Front}
-use Rattle.reqtable_text.specs.declared.candidates.Candidate.{Candidate}
+use Rattle.reqtable_candidates.specs.declared.candidates.Candidate.{Candidate}
 use Rattle.reqtable_range.specs.Together.{IsPlain}
 use Rattle.reqtable_answer.specs.Asks.{specifiers_of, is_of, ask_takes}
 use Rattle.reqtable_answer.specs.Asks.{is_candidate, may_be_taken}

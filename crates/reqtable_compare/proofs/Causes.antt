@@ -8,7 +8,7 @@ use Rattle.pep440_range.specs.Ranges.{range_of}
 use Rattle.pep508_tree.specs.Meaning.{NodeRecord}
 use Rattle.pep508_url.specs.Vars.{Variables}
 use Rattle.pep508_url.specs.UrlTexts.{Verbatim}
-use Rattle.pep508_url.specs.declared.error.VerbatimUrlError.{VerbatimUrlError}
+use Rattle.pep508_url.specs.declared.url_error.VerbatimUrlError.{VerbatimUrlError}
 use Rattle.pep508_requirement.specs.RequirementReading.{AsksFor}
 use Rattle.pep508_requirement.specs.declared.version_or_url.VersionOrUrl.{VersionOrUrl}
 use Rattle.pep508_requirement.specs.declared.version_or_url.VersionOrUrl.TheVariants as asked

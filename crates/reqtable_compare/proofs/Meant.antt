@@ -6,7 +6,7 @@ use Rattle.std.specs.List.{list_any, list_all, AllZip}
 use Rattle.pep508_tree.specs.Meaning.{NodeRecord, holds}
 use Rattle.pep508_url.specs.Vars.{Variables}
 use Rattle.pep508_url.specs.UrlTexts.{Verbatim}
-use Rattle.pep508_url.specs.declared.error.VerbatimUrlError.{VerbatimUrlError}
+use Rattle.pep508_url.specs.declared.url_error.VerbatimUrlError.{VerbatimUrlError}
 use Rattle.pep508_requirement.specs.RequirementReading.{AsksFor}
 use Rattle.pep508_requirement.specs.declared.version_or_url.VersionOrUrl.{VersionOrUrl}
 use Rattle.pep508_requirement.specs.declared.version_or_url.VersionOrUrl.TheVariants as asked

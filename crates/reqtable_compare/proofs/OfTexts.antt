@@ -9,7 +9,7 @@ use Rattle.pep508_url.specs.Vars.{Variables}
 use Rattle.pep508_requirement_text.specs.FrontReading.{Source}
 use Rattle.pep508_requirement_text.specs.FrontReading.Source.{Any, Specifiers, Url}
 use Rattle.pep508_requirement_text.specs.FrontText.{IsSourceText}
-use Rattle.reqtable_text.specs.TextLines.{text_lines}
+use Rattle.reqtable_candidates.specs.TextLines.{text_lines}
 use Rattle.reqtable_answer.specs.Asks.{specifiers_of}
 use Rattle.reqtable_requirements.specs.LineReading.{LineRecord}
 use Rattle.reqtable_requirements.specs.LineText.{IsNumberedLine}

@@ -3,7 +3,7 @@ use Rattle.std.specs.Prelude.{List, All}
 use Rattle.pep440_specifier.specs.Building.{IsBuilt}
 use Rattle.pep440_specifier.specs.Matching.{SpecifierRecord}
 use Rattle.pep440_range.specs.Agreement.{IsSaid}
-use Rattle.reqtable_text.specs.declared.candidates.Candidate.{Candidate}
+use Rattle.reqtable_candidates.specs.declared.candidates.Candidate.{Candidate}
 use Rattle.reqtable_range.specs.Together.{IsPlain}
 use Rattle.reqtable_answer.specs.Asks.{specifiers_of}
 use Rattle.reqtable_requirements.specs.LineReading.{LineRecord}

@@ -17,7 +17,7 @@ use Rattle.pep440_range.proofs.Lists.{both_true}
 use Rattle.pep508_diagram.specs.Question.{Valuation}
 use Rattle.pep508_requirement_text.specs.FrontReading.{Front}
 use Rattle.pep508_cases.specs.Cases.{Marks, IsRealised}
-use Rattle.reqtable_text.specs.declared.candidates.Candidate.{Candidate}
+use Rattle.reqtable_candidates.specs.declared.candidates.Candidate.{Candidate}
 use Rattle.reqtable_range.specs.Together.{IsPlain}
 use Rattle.reqtable_answer.specs.declared.answer.Outcome.TheVariants.{Direct, Nothing}
 use Rattle.reqtable_answer.specs.Asks.{specifiers_of, is_of, has_url, ask_takes, names_prerelease}

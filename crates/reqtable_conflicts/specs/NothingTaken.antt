@@ -5,7 +5,7 @@ use Rattle.pep440_version.specs.Record.{VersionRecord}
 use Rattle.pep508_url.specs.Vars.{Variables}
 use Rattle.pep508_diagram.specs.Question.{Valuation}
 use Rattle.pep508_tree.specs.Meaning.{NodeRecord}
-use Rattle.reqtable_text.specs.declared.candidates.Candidate.{Candidate}
+use Rattle.reqtable_candidates.specs.declared.candidates.Candidate.{Candidate}
 use Rattle.reqtable_range.specs.Together.{IsPlain}
 use Rattle.reqtable_answer.specs.declared.answer.Outcome.TheVariants.{Nothing}
 use Rattle.reqtable_answer.specs.Asks.{ask_takes}

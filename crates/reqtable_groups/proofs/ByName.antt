@@ -14,7 +14,7 @@ use Rattle.std.specs.Str.{bytes_eq}
 use Rattle.std.specs.declared.cmp.Ordering.{Ordering}
 use Rattle.reqtable_requirements.specs.declared.requirements.Line.{Line}
 use Rattle.reqtable_groups.specs.declared.given.NamedGiven.{NamedGiven}
-use Rattle.reqtable_groups.specs.declared.grouping.Group.{Group}
+use Rattle.reqtable_groups.specs.declared.lines_by_package.Group.{Group}
 use Rattle.reqtable_groups.specs.Given.{given_by, named_by, is_under, is_beside, AreSoFar, AreGrouped}
 use Rattle.reqtable_groups.proofs.GroupedLines.{name_of, given_in}
 

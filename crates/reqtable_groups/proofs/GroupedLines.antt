@@ -10,7 +10,7 @@ use Rattle.std.specs.List.{list_any, dedup}
 use Rattle.std.specs.Str.{bytes_eq}
 use Rattle.reqtable_groups.specs.declared.given.Given.{Given}
 use Rattle.reqtable_groups.specs.declared.given.NamedGiven.{NamedGiven}
-use Rattle.reqtable_groups.specs.declared.grouping.Group.{Group}
+use Rattle.reqtable_groups.specs.declared.lines_by_package.Group.{Group}
 use Rattle.reqtable_groups.specs.Given.{is_beside, group_names, lines_under, lines_in, AreSoFar, IsNewGroup}
 use Rattle.reqtable_groups.specs.Given.{IsInLast, IsOfOther, IsAdded}
 use Rattle.reqtable_groups.proofs.Names.{same_again, other_again, same_last, some_last, not_none}

@@ -2,7 +2,7 @@
 #![tactic(auto)]
 
 mod given;
-mod grouping;
+mod lines_by_package;
 
 pub use given::Given;
-pub use grouping::{Group, grouped};
+pub use lines_by_package::{Group, grouped};

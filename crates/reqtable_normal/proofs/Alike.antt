@@ -6,8 +6,8 @@ use Rattle.pep440_specifier.specs.Matching.{SpecifierRecord}
 use Rattle.pep440_specifier_list.specs.Lists.{IsInOrder}
 use Rattle.pep508_diagram.specs.Diagram.{Leaf}
 use Rattle.pep508_diagram.specs.Question.{Valuation}
-use Rattle.pep508_marker_text.specs.MarkerText.{marker_text}
-use Rattle.pep508_marker_text.proofs.Spelled.{one_spelling}
+use Rattle.pep508_marker_text_laws.specs.MarkerText.{marker_text}
+use Rattle.pep508_marker_text_laws.proofs.Spelled.{one_spelling}
 use Rattle.pep508_requirement_text.specs.FrontReading.{Source}
 use Rattle.pep508_requirement_text.specs.FrontReading.Source.{Any, Specifiers, Url}
 use Rattle.pep508_requirement_ref.specs.RequirementPrint.{extras_text, source_text, marker_part}

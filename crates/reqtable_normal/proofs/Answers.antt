@@ -4,7 +4,7 @@ use Rattle.std.specs.List.{AllByRecursion, AllZip}
 use Rattle.pep508_diagram.specs.Question.{Valuation}
 use Rattle.pep508_requirement_text.specs.FrontReading.{Front}
 use Rattle.pep508_url.specs.Vars.{Variables}
-use Rattle.reqtable_text.specs.declared.candidates.Candidate.{Candidate}
+use Rattle.reqtable_candidates.specs.declared.candidates.Candidate.{Candidate}
 use Rattle.reqtable_answer.specs.Answer.{Admits, IsAnswerText}
 use Rattle.reqtable_answer.specs.Says.{Says}
 use Rattle.reqtable_answer.proofs.Alike.{AreAlike, same_answer}

@@ -1,6 +1,6 @@
 -- The marker of a line without a fault can be written.
 use Rattle.std.proofs.Common.{◌≡◌, Bool, true, false, if◌then◌else◌, Option, Some, None, refl}
-use Rattle.pep508_marker_text.specs.ReleaseBounds.{HasReleasesAlone}
+use Rattle.pep508_marker_text_laws.specs.ReleaseBounds.{HasReleasesAlone}
 use Rattle.pep508_questions.specs.Asks.{asks_any, has_quote, is_of_deprecated_key, is_other_bound}
 use Rattle.pep508_questions.proofs.Unasked.{unquoted, modern, releases}
 use Rattle.pep508_diagram.specs.Questions.{AllQuestions}

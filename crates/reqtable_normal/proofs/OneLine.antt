@@ -10,9 +10,9 @@ use Rattle.pep508_name.specs.Name.{name_of}
 use Rattle.pep508_diagram.specs.Diagram.{Diagram, Leaf, Test}
 use Rattle.pep508_diagram.specs.Question.{Question, Valuation, truth}
 use Rattle.pep508_expression.specs.Expressions.{expression_holds}
-use Rattle.pep508_marker_read.specs.Formula.{formula_holds}
-use Rattle.pep508_marker_read.specs.MarkerReading.{Marker}
-use Rattle.pep508_marker_text.specs.MarkerText.{marker_text}
+use Rattle.pep508_marker_parser.specs.Formula.{formula_holds}
+use Rattle.pep508_marker_parser.specs.MarkerReading.{Marker}
+use Rattle.pep508_marker_text_laws.specs.MarkerText.{marker_text}
 use Rattle.pep508_requirement.specs.RequirementText.{IsMarkedText}
 use Rattle.pep508_requirement_ref.specs.RequirementPrint.{requirement_text, extras_text, source_text}
 use Rattle.pep508_requirement_ref.specs.RequirementPrint.{marker_part}
@@ -30,7 +30,7 @@ use Rattle.pep508_reading_back.proofs.Requirements.{requirement_read}
 use Rattle.pep508_reading_back.proofs.Told.{marked_told, diagram_told, pieces_told}
 use Rattle.pep508_reading_back.proofs.Unquoted.{told_is_readable}
 use Rattle.pep508_url.specs.Vars.{Variables}
-use Rattle.reqtable_text.specs.TextLines.{is_blank}
+use Rattle.reqtable_candidates.specs.TextLines.{is_blank}
 use Rattle.reqtable_answer.specs.Asks.{is_url}
 use Rattle.reqtable_answer.specs.Says.{Says, SaysSource}
 use Rattle.reqtable_requirements.specs.LineReading.{LineRecord}

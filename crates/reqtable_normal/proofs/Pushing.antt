@@ -8,7 +8,7 @@ use Rattle.pep508_tree.specs.Nodes.{AreSound}
 use Rattle.pep508_tree.specs.Tree.{Tree, never}
 use Rattle.pep508_tree.proofs.OneTree.{canonical_trees, never_true}
 use Rattle.pep508_tree.proofs.Shortened.{short_trees}
-use Rattle.pep508_marker_text.proofs.Spelled.{one_spelling}
+use Rattle.pep508_marker_text_laws.proofs.Spelled.{one_spelling}
 use Rattle.reqtable_normal.specs.Normalized.{NormalLine, never_holds, line_text, lines_text}
 use Rattle.reqtable_normal.proofs.ReadAgain.{never_fails}
 

@@ -7,7 +7,7 @@ use Rattle.pep508_diagram.specs.Question.{Question, Valuation, truth}
 use Rattle.pep508_requirement_text.specs.FrontReading.{Front}
 use Rattle.pep508_reading_back.specs.Lines.{IsLine}
 use Rattle.pep508_url.specs.Vars.{Variables}
-use Rattle.reqtable_text.specs.TextLines.{text_lines}
+use Rattle.reqtable_candidates.specs.TextLines.{text_lines}
 use Rattle.reqtable_answer.specs.Says.{Says}
 use Rattle.reqtable_requirements.specs.Asks.{applies, asks_of}
 use Rattle.reqtable_requirements.specs.LineReading.{LineRecord}

@@ -15,8 +15,8 @@ use Rattle.std.specs.List.{zip}
 use Rattle.std.specs.Option.{option_map_or}
 use Rattle.std.specs.Str.{chars, all_scalars, encode_utf8_all, IsUtf8, IsCharBoundary}
 use Rattle.std.specs.Str.Lines.{strip_carriage_return}
-use Rattle.reqtable_text.specs.TextLines.{begins_comment, without_comment, is_blank, text_lines}
-use Rattle.reqtable_text.proofs.CandidateParts.{scalars_before}
+use Rattle.reqtable_candidates.specs.TextLines.{begins_comment, without_comment, is_blank, text_lines}
+use Rattle.reqtable_candidates.proofs.CandidateParts.{scalars_before}
 use Rattle.pep508_reading_back.specs.Lines.{has_comment, IsLine}
 
 -- ---- comments

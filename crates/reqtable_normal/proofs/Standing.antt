@@ -19,7 +19,7 @@ use Rattle.pep508_tree.proofs.OneTree.{canonical_trees}
 use Rattle.pep508_tree.proofs.Shortened.{short_trees}
 use Rattle.pep508_url.specs.UrlTexts.{Verbatim}
 use Rattle.pep508_url.specs.Vars.{Variables}
-use Rattle.pep508_url.specs.declared.error.VerbatimUrlError.{VerbatimUrlError}
+use Rattle.pep508_url.specs.declared.url_error.VerbatimUrlError.{VerbatimUrlError}
 use Rattle.reqtable_answer.specs.Says.{SaysSource, wanted_seen}
 use Rattle.reqtable_requirements.specs.LineReading.{LineRecord}
 use Rattle.reqtable_requirements.specs.Requirements.{ReadsUrl, StandsFor}

@@ -9,7 +9,7 @@ use Rattle.std.specs.Char.{is_whitespace}
 use Rattle.std.specs.List.{AllByRecursion, filter, flat_map, slice_split, enumerate_from, list_all}
 use Rattle.std.specs.Str.{IsUtf8}
 use Rattle.std.specs.Str.Lines.{strip_carriage_return}
-use Rattle.reqtable_text.specs.TextLines.{without_comment, is_blank, text_lines}
+use Rattle.reqtable_candidates.specs.TextLines.{without_comment, is_blank, text_lines}
 use Rattle.pep508_reading_back.specs.Lines.{has_comment, IsWholeLine}
 use Rattle.reqtable_normal.proofs.ReadLines.{comment_kept}
 

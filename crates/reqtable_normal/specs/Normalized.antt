@@ -8,8 +8,8 @@ use Rattle.pep508_diagram.specs.Diagram.{Diagram, Leaf, Test}
 use Rattle.pep508_diagram.specs.Question.{Question, Valuation, truth, IsCanonical}
 use Rattle.pep508_diagram.specs.Shortened.{HasShortVersions}
 use Rattle.pep508_expression.specs.Expressions.{expression_holds}
-use Rattle.pep508_marker_read.specs.Formula.{Formula, formula_holds}
-use Rattle.pep508_marker_text.specs.MarkerText.{marker_text}
+use Rattle.pep508_marker_parser.specs.Formula.{Formula, formula_holds}
+use Rattle.pep508_marker_text_laws.specs.MarkerText.{marker_text}
 use Rattle.pep508_questions.specs.Asks.{asks_any, has_quote, is_of_deprecated_key, is_other_bound}
 use Rattle.pep508_requirement_text.specs.FrontReading.{Front}
 use Rattle.pep508_requirement_ref.specs.RequirementPrint.{requirement_text}

@@ -3,7 +3,7 @@ use Rattle.std.proofs.Common.{◌∙◌, List, [], ◌∷◌, sym, subst}
 use Rattle.std.specs.List.{AllZip}
 use Rattle.pep508_url.specs.Vars.{Variables}
 use Rattle.pep508_tree.specs.Meaning.{NodeRecord, IsTree}
-use Rattle.pep508_marker_read.specs.MarkerOutcome.{IsTreeOf}
+use Rattle.pep508_marker_parser.specs.MarkerOutcome.{IsTreeOf}
 use Rattle.pep508_requirement.specs.RequirementReading.{AsksFor}
 use Rattle.reqtable_requirements.specs.Asks.{AreOfNodes}
 use Rattle.reqtable_requirements.specs.Copies.{IsLineCopy}

@@ -9,8 +9,8 @@ use Rattle.std.proofs.lemmas.List.Folds.{list_all-append}
 use Rattle.std.specs.Borrow.{Bor}
 use Rattle.pep440_specifier.specs.Matching.{SpecifierRecord, takes}
 use Rattle.pep440_specifier_list.specs.Lists.{matches_all}
-use Rattle.reqtable_range.specs.declared.sorting.Kind.TheVariants.{Simple, Plain, Single}
-use Rattle.reqtable_range.specs.declared.sorting.Sorted.{Sorted}
+use Rattle.reqtable_range.specs.declared.specifier_sets.Kind.TheVariants.{Simple, Plain, Single}
+use Rattle.reqtable_range.specs.declared.specifier_sets.Sorted.{Sorted}
 use Rattle.reqtable_range.specs.Sorting.{IsOfKind, TakeAs, SortsInto}
 use Rattle.reqtable_range.specs.Together.{members_of, lent}
 

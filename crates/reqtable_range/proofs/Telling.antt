@@ -10,7 +10,7 @@ use Rattle.pep440_specifier_list.specs.Lists.{matches_all}
 use Rattle.pep440_range.specs.Agreement.{IsSaid, IsSimple, IsWithoutPosts}
 use Rattle.pep440_range.specs.Ranges.{range_of, GivesAll}
 use Rattle.reqtable_range.specs.declared.one.OneRange.{OneRange}
-use Rattle.reqtable_range.specs.declared.sorting.Kind.TheVariants.{Simple, Plain}
+use Rattle.reqtable_range.specs.declared.specifier_sets.Kind.TheVariants.{Simple, Plain}
 use Rattle.reqtable_range.specs.One.{FindsOne}
 use Rattle.reqtable_range.specs.Sorting.{IsOfKind}
 use Rattle.reqtable_range.specs.Together.{members_of, all_take, lent, IsPlain, HasRange, HaveRanges}

@@ -2,7 +2,7 @@
 use Rattle.std.specs.Prelude.{List, All}
 use Rattle.pep440_specifier.specs.Matching.{SpecifierRecord}
 use Rattle.reqtable_range.specs.declared.one.OneRange.{OneRange}
-use Rattle.reqtable_range.specs.declared.sorting.Kind.TheVariants.{Simple, Plain, Single}
+use Rattle.reqtable_range.specs.declared.specifier_sets.Kind.TheVariants.{Simple, Plain, Single}
 use Rattle.reqtable_range.specs.Sorting.{IsOfKind, TakeAs}
 use Rattle.reqtable_range.specs.Together.{lent, IsShared}
 

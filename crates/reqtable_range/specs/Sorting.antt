@@ -4,9 +4,9 @@ use Rattle.pep440_version.specs.Record.{VersionRecord}
 use Rattle.pep440_specifier.specs.Matching.{SpecifierRecord}
 use Rattle.pep440_specifier_list.specs.Lists.{matches_all}
 use Rattle.pep440_range.specs.Agreement.{IsSimple, IsWithoutPosts}
-use Rattle.reqtable_range.specs.declared.sorting.Kind.{Kind}
-use Rattle.reqtable_range.specs.declared.sorting.Kind.TheVariants.{Simple, Plain, Single}
-use Rattle.reqtable_range.specs.declared.sorting.Sorted.{Sorted}
+use Rattle.reqtable_range.specs.declared.specifier_sets.Kind.{Kind}
+use Rattle.reqtable_range.specs.declared.specifier_sets.Kind.TheVariants.{Simple, Plain, Single}
+use Rattle.reqtable_range.specs.declared.specifier_sets.Sorted.{Sorted}
 use Rattle.reqtable_range.specs.Together.{lent, HasRange}
 
 -- the range of a simple specifier decides each version that can be written, that of a plain one plain

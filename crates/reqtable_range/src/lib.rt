@@ -7,8 +7,8 @@ mod one;
 mod plain;
 mod shared;
 mod simple;
-mod sorting;
+mod specifier_sets;
 
 pub use one::{OneRange, one_range};
 pub use shared::shared_range;
-pub use sorting::has_range;
+pub use specifier_sets::has_range;

@@ -14,7 +14,7 @@ ghost use Rattle.reqtable_range.specs.One.{FindsOne};
 use crate::laws::simple_range_tells_what_all_take;
 use crate::plain::{is_plain, is_said};
 use crate::shared::shared_range;
-use crate::sorting::sorted_members;
+use crate::specifier_sets::sorted_members;
 use pep440_range::laws::ranges_agree_beside_posts;
 use pep440_specifier::VersionSpecifier;
 use pep440_specifier_list::VersionSpecifiers;

@@ -4,12 +4,12 @@ use Rattle.std.proofs.Common.{Result, Ok, Err, IfOk, refl, ap, sym, subst, â—Œâˆ
 use Rattle.std.specs.List.{AllZip}
 use Rattle.pep508_url.specs.Vars.{Variables}
 use Rattle.pep508_url.specs.UrlTexts.{Verbatim}
-use Rattle.pep508_url.specs.declared.error.VerbatimUrlError.{VerbatimUrlError}
+use Rattle.pep508_url.specs.declared.url_error.VerbatimUrlError.{VerbatimUrlError}
 use Rattle.pep508_diagram.specs.Question.{Valuation}
 use Rattle.pep508_tree.specs.Meaning.{NodeRecord, holds}
 use Rattle.pep508_expression.specs.Expressions.{expression_holds}
 use Rattle.pep508_formula.specs.Postfix.{formula_of}
-use Rattle.pep508_marker_read.specs.Formula.{formula_holds}
+use Rattle.pep508_marker_parser.specs.Formula.{formula_holds}
 use Rattle.pep508_requirement_text.specs.FrontReading.{Source, Front}
 use Rattle.pep508_requirement_text.specs.FrontReading.Source.{Any, Specifiers, Url}
 use Rattle.pep508_requirement.specs.RequirementReading.{AsksFor}

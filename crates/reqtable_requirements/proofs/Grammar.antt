@@ -5,17 +5,17 @@ use Rattle.pep508_url.specs.Vars.{Variables}
 use Rattle.pep508_url.specs.UrlFaults.{UrlFault}
 use Rattle.pep508_url.specs.UrlTexts.{Verbatim}
 use Rattle.pep508_marker.specs.Expression.{ExpressionRecord}
-use Rattle.pep508_marker_read.specs.Formula.{Formula}
-use Rattle.pep508_marker_read.specs.SideReading as markers
-use Rattle.pep508_marker_read.specs.MarkerReading.{Marker}
+use Rattle.pep508_marker_parser.specs.Formula.{Formula}
+use Rattle.pep508_marker_parser.specs.SideReading as markers
+use Rattle.pep508_marker_parser.specs.MarkerReading.{Marker}
 use Rattle.pep508_requirement_text.specs.FrontReading.{Source, Front, Refused, front_reading}
 use Rattle.pep508_requirement_text.specs.FrontReading.Source.{Any, Specifiers, Url}
 use Rattle.pep508_requirement.specs.MarkerBehind.{marker_behind}
 use Rattle.pep508_requirement.proofs.Behind.{FoundLaw, AgainLaw}
 use Rattle.pep508_requirement.proofs.Requirements.{FrontFound, FrontAgain, are_read, written}
-use Rattle.reqtable_text.specs.TextLines.{text_lines}
-use Rattle.reqtable_text.proofs.Lines.{each_found, each_again, all_zip_map}
-use Rattle.reqtable_text.proofs.Texts.{text_is_read, text_found}
+use Rattle.reqtable_candidates.specs.TextLines.{text_lines}
+use Rattle.reqtable_candidates.proofs.Lines.{each_found, each_again, all_zip_map}
+use Rattle.reqtable_candidates.proofs.Texts.{text_is_read, text_found}
 use Rattle.reqtable_requirements.specs.LineReading.{LineRecord, LinesFault, NotText, url_of, with_marker}
 use Rattle.reqtable_requirements.specs.LineReading.{with_rest, with_url, with_source, with_front, line_of}
 use Rattle.reqtable_requirements.specs.LineText.{HasItsUrl, IsRequirementLine, IsNumberedLine}

@@ -5,18 +5,18 @@ use Rattle.std.specs.Result.{IsErrAnd}
 use Rattle.read_outcome.specs.Outcome.{Tells}
 use Rattle.pep508_url.specs.Vars.{Variables}
 use Rattle.pep508_url.specs.UrlTexts.{Verbatim}
-use Rattle.pep508_url.specs.declared.error.VerbatimUrlError.{VerbatimUrlError}
+use Rattle.pep508_url.specs.declared.url_error.VerbatimUrlError.{VerbatimUrlError}
 use Rattle.pep508_formula.specs.Postfix.{formula_of}
 use Rattle.pep508_requirement.specs.declared.version_or_url.VersionOrUrl.{VersionOrUrl}
 use Rattle.pep508_requirement.specs.RequirementReading.{AsksFor}
 use Rattle.pep508_tree.specs.Meaning.{NodeRecord, Extends}
 use Rattle.pep508_tree.proofs.Conjoining.{tree_kept}
 use Rattle.pep508_tree.proofs.Diagrams.{holds_kept}
-use Rattle.pep508_marker_read.specs.MarkerOutcome.{IsTreeOf}
+use Rattle.pep508_marker_parser.specs.MarkerOutcome.{IsTreeOf}
 use Rattle.std.specs.Str.{IsUtf8}
-use Rattle.reqtable_text.specs.TextLines.{text_lines, each_line}
-use Rattle.reqtable_text.proofs.Lines.{all_zip_map, zip_more, each_more, tells_all}
-use Rattle.reqtable_text.proofs.Texts.{text_is_read}
+use Rattle.reqtable_candidates.specs.TextLines.{text_lines, each_line}
+use Rattle.reqtable_candidates.proofs.Lines.{all_zip_map, zip_more, each_more, tells_all}
+use Rattle.reqtable_candidates.proofs.Texts.{text_is_read}
 use Rattle.reqtable_requirements.specs.LineReading.{LineRecord, LinesFault, NotText, line_of}
 use Rattle.reqtable_requirements.specs.Requirements.{ReadsUrl, requirements_of, StandsFor, SaysLine}
 use Rattle.reqtable_requirements.specs.Requirements.{told_requirements, IsErrorOf, IsErrorIn, ReadsLine, ReadsLines}

@@ -11,7 +11,7 @@ use Rattle.std.specs.declared.cmp.Ordering.TheVariants.{Less}
 use Rattle.std.specs.Str.Lines.{strip_carriage_return}
 use Rattle.pep508_url.specs.Vars.{Variables}
 use Rattle.pep508_tree.specs.Meaning.{NodeRecord}
-use Rattle.reqtable_text.specs.TextLines.{is_blank, without_comment, text_lines}
+use Rattle.reqtable_candidates.specs.TextLines.{is_blank, without_comment, text_lines}
 use Rattle.reqtable_requirements.specs.LineReading.{LineRecord}
 use Rattle.reqtable_requirements.specs.LineText.{IsNumberedLine}
 use Rattle.reqtable_requirements.specs.Requirements.{StandsFor}

@@ -6,18 +6,18 @@ use Rattle.pep508_url.specs.Vars.{Variables}
 use Rattle.pep508_url.specs.UrlTexts.{Verbatim}
 use Rattle.pep508_url.specs.UrlFaults.{UrlFault, told_url}
 use Rattle.pep508_url.specs.Lacking.{lacks_memory}
-use Rattle.pep508_url.specs.declared.error.VerbatimUrlError.{VerbatimUrlError}
-use Rattle.pep508_url.specs.declared.error.VerbatimUrlError.TheVariants as urls
+use Rattle.pep508_url.specs.declared.url_error.VerbatimUrlError.{VerbatimUrlError}
+use Rattle.pep508_url.specs.declared.url_error.VerbatimUrlError.TheVariants as urls
 use Rattle.pep508_error.specs.declared.refusal.RefusalKind.TheVariants as kinds
 use Rattle.pep508_error.specs.declared.error.Pep508Error.{Pep508Error}
 use Rattle.pep508_error.specs.declared.error.Pep508ErrorSource.{Pep508ErrorSource}
 use Rattle.pep508_error.specs.declared.error.Pep508ErrorSource.TheVariants as sources
-use Rattle.pep508_marker_read.specs.SideReading as markers
-use Rattle.pep508_marker_read.specs.Outcome as outcome
+use Rattle.pep508_marker_parser.specs.SideReading as markers
+use Rattle.pep508_marker_parser.specs.Outcome as outcome
 use Rattle.pep508_requirement_text.specs.FrontReading.{Source, Front}
 use Rattle.pep508_requirement_text.specs.FrontReading.Source.{Any, Specifiers, Url}
 use Rattle.pep508_requirement.specs.MarkerBehind.{marker_behind}
-use Rattle.pep508_requirement.specs.declared.marked.MarkedRequirement.{MarkedRequirement}
+use Rattle.pep508_requirement.specs.declared.marked_requirement.MarkedRequirement.{MarkedRequirement}
 use Rattle.pep508_requirement.specs.declared.version_or_url.VersionOrUrl.{VersionOrUrl}
 use Rattle.pep508_requirement.specs.declared.version_or_url.VersionOrUrl.TheVariants as asked
 use Rattle.pep508_requirement.specs.MarkedReading.{IsReadMarked}

@@ -6,7 +6,7 @@ use Rattle.std.specs.List.Sorted.{IsPermutation}
 use Rattle.std.proofs.lemmas.List.Sorted.{list_any-IsPermutation}
 use Rattle.pep508_diagram.specs.Question.{Valuation}
 use Rattle.pep508_expression.specs.Expressions.{expression_holds}
-use Rattle.pep508_marker_read.specs.Formula.{formula_holds}
+use Rattle.pep508_marker_parser.specs.Formula.{formula_holds}
 use Rattle.pep508_requirement_text.specs.FrontReading.{Front}
 use Rattle.reqtable_answer.specs.Asks.{is_of, has_extra, has_url, ask_takes, has_prerelease}
 use Rattle.reqtable_answer.proofs.Tests.{any_kept, all_any}

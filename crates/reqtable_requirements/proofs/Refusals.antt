@@ -6,8 +6,8 @@ use Rattle.pep440_specifier.specs.SpecifierText.{AreSpaces}
 use Rattle.pep508_url.specs.Vars.{Variables}
 use Rattle.pep508_url.specs.UrlFaults.{UrlFault}
 use Rattle.pep508_url.specs.UrlTexts.{Verbatim}
-use Rattle.pep508_marker_read.specs.SideReading as markers
-use Rattle.pep508_marker_read.specs.MarkerReading.{Marker, marker_at}
+use Rattle.pep508_marker_parser.specs.SideReading as markers
+use Rattle.pep508_marker_parser.specs.MarkerReading.{Marker, marker_at}
 use Rattle.pep508_requirement_text.specs.FrontReading.{Source, Front, Refused, front_reading}
 use Rattle.pep508_requirement_text.specs.FrontReading.Source.{Any, Specifiers, Url}
 use Rattle.pep508_error.proofs.Tests.{the_same}
@@ -15,9 +15,9 @@ use Rattle.pep508_error.proofs.Spaces.{spaces_found, spaces_again}
 use Rattle.pep508_requirement.specs.MarkerBehind.{marker_behind}
 use Rattle.pep508_requirement.proofs.Behind.{FoundLaw, AgainLaw}
 use Rattle.pep508_requirement.proofs.Requirements.{FrontFound, FrontAgain}
-use Rattle.reqtable_text.specs.TextLines.{text_lines}
-use Rattle.reqtable_text.proofs.Lines.{FirstFault, fault_found, fault_again, all_zip_map}
-use Rattle.reqtable_text.proofs.Texts.{text_is_read, text_found}
+use Rattle.reqtable_candidates.specs.TextLines.{text_lines}
+use Rattle.reqtable_candidates.proofs.Lines.{FirstFault, fault_found, fault_again, all_zip_map}
+use Rattle.reqtable_candidates.proofs.Texts.{text_is_read, text_found}
 use Rattle.reqtable_requirements.specs.LineReading.{LineRecord, LinesFault, NotText, NoRequirement}
 use Rattle.reqtable_requirements.specs.LineReading.{NumberAtEnd, url_of, with_marker, with_url}
 use Rattle.reqtable_requirements.specs.LineReading.{with_source, with_front, line_of}

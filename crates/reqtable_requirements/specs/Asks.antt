@@ -2,15 +2,15 @@
 use Rattle.std.specs.Prelude.{ℕ, Bool, List, map, filter}
 use Rattle.std.specs.List.{AllByRecursion}
 use Rattle.pep508_url.specs.UrlTexts.{Verbatim}
-use Rattle.pep508_url.specs.declared.error.VerbatimUrlError.{VerbatimUrlError}
+use Rattle.pep508_url.specs.declared.url_error.VerbatimUrlError.{VerbatimUrlError}
 use Rattle.pep508_diagram.specs.Question.{Valuation}
 use Rattle.pep508_tree.specs.Meaning.{NodeRecord, IsTree, holds}
 use Rattle.pep508_expression.specs.Expressions.{expression_holds}
 use Rattle.pep508_marker.specs.Expression.{ExpressionRecord}
 use Rattle.pep508_formula.specs.Postfix.{formula_of}
-use Rattle.pep508_marker_read.specs.Formula.{Formula, formula_holds}
+use Rattle.pep508_marker_parser.specs.Formula.{Formula, formula_holds}
 use Rattle.pep508_requirement_text.specs.FrontReading.{Front}
-use Rattle.pep508_requirement.specs.declared.marked.MarkedRequirement.{MarkedRequirement}
+use Rattle.pep508_requirement.specs.declared.marked_requirement.MarkedRequirement.{MarkedRequirement}
 use Rattle.pep508_requirement.specs.declared.requirement.Requirement.{Requirement}
 use Rattle.reqtable_answer.specs.Asks.{is_of}
 use Rattle.reqtable_requirements.specs.declared.marked.MarkedLine.{MarkedLine}

@@ -3,10 +3,10 @@ use Rattle.std.specs.Prelude.{ℕ, List, ◌++◌, codes, Option, Some}
 use Rattle.std.specs.Fmt.{◌++?◌, decimal}
 use Rattle.pep508_url.specs.UrlFaults.{url_error_text}
 use Rattle.pep508_url.specs.UrlTexts.{Verbatim}
-use Rattle.pep508_url.specs.declared.error.VerbatimUrlError.{VerbatimUrlError}
+use Rattle.pep508_url.specs.declared.url_error.VerbatimUrlError.{VerbatimUrlError}
 use Rattle.pep508_error.specs.declared.error.Pep508Error.{Pep508Error}
 use Rattle.pep508_error.specs.Errors.{error_text}
-use Rattle.reqtable_text.specs.Errors.{no_text}
+use Rattle.reqtable_candidates.specs.Errors.{no_text}
 use Rattle.reqtable_requirements.specs.declared.requirements.RequirementsError.{RequirementsError}
 use Rattle.reqtable_requirements.specs.declared.requirements.RequirementsError.TheVariants.{NotText, Line}
 use Rattle.reqtable_requirements.specs.declared.requirements.RequirementsError.TheVariants.{NumberAtEnd}

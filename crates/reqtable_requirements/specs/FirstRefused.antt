@@ -3,8 +3,8 @@ use Rattle.std.specs.Prelude.{◌≡◌, ℕ, List, ◌∷◌, ◌++◌, Err}
 use Rattle.std.specs.List.{AllZip}
 use Rattle.pep440_specifier.specs.SpecifierText.{AreSpaces}
 use Rattle.pep508_url.specs.Vars.{Variables}
-use Rattle.pep508_marker_read.specs.SideReading.{AtEnd}
-use Rattle.pep508_marker_read.specs.MarkerReading.{marker_at}
+use Rattle.pep508_marker_parser.specs.SideReading.{AtEnd}
+use Rattle.pep508_marker_parser.specs.MarkerReading.{marker_at}
 use Rattle.pep508_requirement_text.specs.FrontReading.{Front}
 use Rattle.pep508_requirement_text.specs.FrontText.{IsFrontText}
 use Rattle.reqtable_requirements.specs.LineReading.{LineRecord}

@@ -5,9 +5,9 @@ use Rattle.pep508_url.specs.Vars.{Variables}
 use Rattle.pep508_url.specs.UrlFaults.{UrlFault}
 use Rattle.pep508_url.specs.UrlTexts.{Verbatim, verbatim_reading}
 use Rattle.pep508_marker.specs.Expression.{ExpressionRecord}
-use Rattle.pep508_marker_read.specs.Formula.{Formula}
-use Rattle.pep508_marker_read.specs.SideReading as markers
-use Rattle.pep508_marker_read.specs.MarkerReading.{Marker}
+use Rattle.pep508_marker_parser.specs.Formula.{Formula}
+use Rattle.pep508_marker_parser.specs.SideReading as markers
+use Rattle.pep508_marker_parser.specs.MarkerReading.{Marker}
 use Rattle.pep508_requirement_text.specs.FrontReading.{Source, Front, Refused, front_reading}
 use Rattle.pep508_requirement_text.specs.FrontReading.Source.{Any, Specifiers, Url}
 use Rattle.pep508_requirement.specs.MarkerBehind.{marker_behind}

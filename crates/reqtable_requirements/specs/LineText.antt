@@ -4,11 +4,11 @@ use Rattle.std.specs.List.{AllZip}
 use Rattle.std.specs.Str.{IsUtf8}
 use Rattle.pep508_url.specs.Vars.{Variables}
 use Rattle.pep508_url.specs.UrlTexts.{Verbatim}
-use Rattle.pep508_marker_read.specs.MarkerReading.{Marker}
+use Rattle.pep508_marker_parser.specs.MarkerReading.{Marker}
 use Rattle.pep508_requirement_text.specs.FrontReading.{Source}
 use Rattle.pep508_requirement_text.specs.FrontReading.Source.{Any, Specifiers, Url}
 use Rattle.pep508_requirement.specs.RequirementText.{IsMarkedText}
-use Rattle.reqtable_text.specs.TextLines.{text_lines}
+use Rattle.reqtable_candidates.specs.TextLines.{text_lines}
 use Rattle.reqtable_requirements.specs.LineReading.{LineRecord, url_of}
 
 -- a URL that is required is valid

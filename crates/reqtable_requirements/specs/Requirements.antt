@@ -6,15 +6,15 @@ use Rattle.pep508_url.specs.Vars.{Variables}
 use Rattle.pep508_url.specs.UrlFaults.{told_url}
 use Rattle.pep508_url.specs.UrlTexts.{Verbatim}
 use Rattle.pep508_url.specs.Lacking.{lacks_memory}
-use Rattle.pep508_url.specs.declared.error.VerbatimUrlError.{VerbatimUrlError}
+use Rattle.pep508_url.specs.declared.url_error.VerbatimUrlError.{VerbatimUrlError}
 use Rattle.pep508_tree.specs.Meaning.{NodeRecord}
 use Rattle.pep508_error.specs.declared.error.Pep508Error.{Pep508Error}
 use Rattle.pep508_error.specs.declared.error.Pep508ErrorSource.{Pep508ErrorSource}
 use Rattle.pep508_error.specs.declared.error.Pep508ErrorSource.TheVariants as sources
 use Rattle.pep508_formula.specs.Postfix.{formula_of}
-use Rattle.pep508_marker_read.specs.MarkerOutcome.{IsTreeOf}
+use Rattle.pep508_marker_parser.specs.MarkerOutcome.{IsTreeOf}
 use Rattle.pep508_requirement.specs.RequirementReading.{AsksFor, IsRefused}
-use Rattle.reqtable_text.specs.TextLines.{text_lines, lines_of_text}
+use Rattle.reqtable_candidates.specs.TextLines.{text_lines, lines_of_text}
 use Rattle.reqtable_requirements.specs.declared.marked.MarkedLine.{MarkedLine}
 use Rattle.reqtable_requirements.specs.declared.requirements.Line.{Line}
 use Rattle.reqtable_requirements.specs.declared.requirements.RequirementsError.{RequirementsError}

@@ -22,7 +22,7 @@ use pep508_environment::MarkerEnvironment;
 use pep508_name::ExtraName;
 use pep508_tree::Interner;
 use reqtable_answer::{Admission, Answer, Ask, answer_to, ask_of, ask_of_marked};
-use reqtable_text::Candidates;
+use reqtable_candidates::Candidates;
 use std::alloc::{AllocError, Global};
 
 impl Requirements {

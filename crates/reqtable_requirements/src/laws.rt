@@ -10,8 +10,8 @@ ghost use Rattle.pep440_specifier_list.specs.ListReading.{IsReadFromText};
 ghost use Rattle.pep508_diagram.specs.Question.{Valuation};
 ghost use Rattle.pep508_url.specs.Vars.{Variables};
 ghost use Rattle.pep508_tree.specs.Meaning.{NodeRecord};
-ghost use Rattle.reqtable_text.specs.TextLines.{text_lines};
-ghost use Rattle.reqtable_text.specs.declared.candidates.Candidate.{Candidate};
+ghost use Rattle.reqtable_candidates.specs.TextLines.{text_lines};
+ghost use Rattle.reqtable_candidates.specs.declared.candidates.Candidate.{Candidate};
 ghost use Rattle.reqtable_answer.specs.Answer.{Admits, RowRecord, IsRow, IsAnswer};
 ghost use Rattle.reqtable_requirements.specs.Asks.{line_said, lines_of, asks_of};
 ghost use Rattle.reqtable_requirements.specs.FirstRefused.{HasNumberAtEnd, IsNoRequirement, IsFirstRefused};
@@ -22,7 +22,7 @@ ghost use Rattle.reqtable_requirements.specs.Requirements.{requirements_of, Read
 ghost use Rattle.reqtable_requirements.specs.declared.requirements.Line.{Line};
 
 use pep440_specifier::laws::{a_read_specifier_is_built, specifier_text_is_read};
-use pep508_marker_read::laws::{a_read_marker_is_written, a_written_marker_is_read};
+use pep508_marker_parser::laws::{a_read_marker_is_written, a_written_marker_is_read};
 use pep508_requirement_text::laws::{a_read_front_is_written, a_written_front_is_read};
 
 /// A text is read as a requirement line exactly if the grammar says that it is that line's text.

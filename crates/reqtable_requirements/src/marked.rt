@@ -9,7 +9,7 @@
 //! the line that was read, `IsErrorIn` says that there is one; both cite `IsRefused`.
 
 ghost use Rattle.std.specs.Prelude.{◌≡◌};
-ghost use Rattle.reqtable_text.specs.TextLines.{text_lines, each_line};
+ghost use Rattle.reqtable_candidates.specs.TextLines.{text_lines, each_line};
 ghost use Rattle.reqtable_requirements.specs.LineReading.{line_of};
 ghost use Rattle.reqtable_requirements.specs.Requirements.{SaysLine, ReadsLine, ReadsLines};
 ghost use Rattle.reqtable_requirements.specs.Requirements.{SaysRequirements, refusal_of};
@@ -18,7 +18,7 @@ use crate::RequirementsError;
 use pep508_error::{Pep508Error, Pep508ErrorSource};
 use pep508_requirement::MarkedRequirement;
 use pep508_url::{Vars, VerbatimUrl};
-use reqtable_text::text_lines::{as_text, is_blank, line_text};
+use reqtable_candidates::text_lines::{as_text, is_blank, line_text};
 use std::alloc::Global;
 use std::marker::Model;
 

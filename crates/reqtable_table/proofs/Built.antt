@@ -19,7 +19,7 @@ use Rattle.reqtable_requirements.specs.Requirements.{StandsFor}
 use Rattle.reqtable_requirements.specs.declared.requirements.Line.{Line}
 use Rattle.reqtable_cases.specs.Lines.{line_marks, is_named, HasTooMany, IsFirstTooMany}
 use Rattle.reqtable_groups.specs.declared.given.Given.{Given}
-use Rattle.reqtable_groups.specs.declared.grouping.Group.{Group}
+use Rattle.reqtable_groups.specs.declared.lines_by_package.Group.{Group}
 use Rattle.reqtable_table.specs.declared.table.TableError.{TableError}
 use Rattle.reqtable_table.specs.declared.table.TableError.TheVariants.{TooManyCases, Memory}
 use Rattle.reqtable_groups.specs.Given.{given_by, is_under, group_names, lines_under, AreGrouped}

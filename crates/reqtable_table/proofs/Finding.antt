@@ -10,16 +10,16 @@ use Rattle.version_ranges.specs.Point.{Point, At}
 use Rattle.pep440_version.specs.Record.{VersionRecord}
 use Rattle.pep440_range.specs.Agreement.{IsSaid}
 use Rattle.pep508_requirement_text.specs.FrontReading.{Front}
-use Rattle.reqtable_text.specs.declared.candidates.Candidate.{Candidate}
-use Rattle.reqtable_text.specs.declared.ordered.Placed.{Placed}
-use Rattle.reqtable_text.specs.Ordered.{placed_seen}
+use Rattle.reqtable_candidates.specs.declared.candidates.Candidate.{Candidate}
+use Rattle.reqtable_candidates.specs.declared.ordered.Placed.{Placed}
+use Rattle.reqtable_candidates.specs.Ordered.{placed_seen}
 use Rattle.reqtable_table.specs.Answers.{tests_for, most_tests}
 use Rattle.reqtable_answer.specs.Admission.{Admits}
 use Rattle.reqtable_answer.specs.Asks.{ask_takes, names_prerelease, may_be_taken}
 use Rattle.reqtable_table.specs.declared.kept.TableLine.{TableLine}
-use Rattle.reqtable_run.specs.InRun.{version_of}
-use Rattle.reqtable_run.specs.Told.{IsPassed}
-use Rattle.reqtable_run.proofs.Places.{same_there}
+use Rattle.reqtable_search.specs.InRun.{version_of}
+use Rattle.reqtable_search.specs.Told.{IsPassed}
+use Rattle.reqtable_search.proofs.Places.{same_there}
 use Rattle.reqtable_table.specs.Choosing.{case_asks, tests_at, AskedMore, Tells}
 use Rattle.reqtable_table.proofs.AskedLines.{records, more_on, more_within}
 use Rattle.reqtable_table.proofs.MarkedAsks.{same_asks}

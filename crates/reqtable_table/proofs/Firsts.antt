@@ -10,7 +10,7 @@ use Rattle.pep508_tree.proofs.Conjoining.{tree_kept}
 use Rattle.pep508_cases.specs.Cases.{marks_of, HasMore}
 use Rattle.pep508_cases.proofs.Counting.{more_than_all}
 use Rattle.reqtable_groups.specs.declared.given.Given.{Given}
-use Rattle.reqtable_groups.specs.declared.grouping.Group.{Group}
+use Rattle.reqtable_groups.specs.declared.lines_by_package.Group.{Group}
 use Rattle.reqtable_table.specs.declared.table.TableError.{TableError}
 use Rattle.reqtable_table.specs.declared.table.TableError.TheVariants.{TooManyCases, Memory}
 use Rattle.reqtable_groups.specs.Given.{lines_in}

@@ -22,3 +22,4 @@ pub mod Told
 pub mod Lasting
 pub mod LentTable
 pub mod Placed
+mod Picked

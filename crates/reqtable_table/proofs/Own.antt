@@ -7,9 +7,9 @@ use Rattle.std.proofs.lemmas.List.Sorted.{All-permutation, IsPermutation-sym, su
 use Rattle.std.specs.List.{list_any, sum_by, enumerate_from, AllByRecursion}
 use Rattle.pep440_range.specs.Agreement.{IsSaid}
 use Rattle.pep508_requirement_text.specs.FrontReading.{Front}
-use Rattle.reqtable_text.specs.Candidates.{HavePrintableVersions}
-use Rattle.reqtable_text.specs.Ordered.{AreInOrder}
-use Rattle.reqtable_text.specs.declared.candidates.Candidate.{Candidate}
+use Rattle.reqtable_candidates.specs.Candidates.{HavePrintableVersions}
+use Rattle.reqtable_candidates.specs.Ordered.{AreInOrder}
+use Rattle.reqtable_candidates.specs.declared.candidates.Candidate.{Candidate}
 use Rattle.reqtable_answer.specs.Admission.{Admits}
 use Rattle.reqtable_answer.specs.Answer.{outcome_of, chosen}
 use Rattle.reqtable_answer.specs.Asks.{has_url, is_candidate, may_be_taken}

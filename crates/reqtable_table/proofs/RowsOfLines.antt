@@ -14,7 +14,7 @@ use Rattle.pep508_tree.specs.Meaning.{NodeRecord, holds}
 use Rattle.pep508_requirement_text.specs.FrontReading.{Source, Front}
 use Rattle.pep508_requirement_text.specs.FrontReading.Source.{Any, Specifiers, Url}
 use Rattle.pep508_cases.specs.Cases.{Marks}
-use Rattle.reqtable_text.specs.declared.candidates.Candidate.{Candidate}
+use Rattle.reqtable_candidates.specs.declared.candidates.Candidate.{Candidate}
 use Rattle.reqtable_answer.specs.Admission.{Admits}
 use Rattle.reqtable_answer.specs.Asks.{specifiers_of, is_url, is_of, has_extra, has_url, ask_takes}
 use Rattle.reqtable_answer.specs.Asks.{has_prerelease}

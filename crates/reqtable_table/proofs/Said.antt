@@ -7,7 +7,7 @@ use Rattle.pep440_specifier_list.specs.Lists.{IsInOrder}
 use Rattle.pep508_diagram.specs.Question.{Valuation}
 use Rattle.pep508_url.specs.Vars.{Variables}
 use Rattle.pep508_url.specs.UrlTexts.{Verbatim}
-use Rattle.pep508_url.specs.declared.error.VerbatimUrlError.{VerbatimUrlError}
+use Rattle.pep508_url.specs.declared.url_error.VerbatimUrlError.{VerbatimUrlError}
 use Rattle.pep508_tree.specs.Meaning.{NodeRecord, Extends}
 use Rattle.pep508_tree.proofs.Conjoining.{tree_kept}
 use Rattle.pep508_tree.proofs.Diagrams.{holds_kept}

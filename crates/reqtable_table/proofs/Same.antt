@@ -12,9 +12,9 @@ use Rattle.pep440_range.specs.Agreement.{IsSaid}
 use Rattle.pep508_diagram.specs.Question.{Valuation}
 use Rattle.pep508_tree.specs.Tree.{Tree}
 use Rattle.pep508_tree.specs.Meaning.{NodeRecord, IsTree, holds}
-use Rattle.pep508_marker_read.specs.MarkerOutcome.{IsTreeOf}
+use Rattle.pep508_marker_parser.specs.MarkerOutcome.{IsTreeOf}
 use Rattle.pep508_cases.specs.Cases.{Marks, marks_of, AreCases}
-use Rattle.reqtable_text.specs.declared.candidates.Candidate.{Candidate}
+use Rattle.reqtable_candidates.specs.declared.candidates.Candidate.{Candidate}
 use Rattle.reqtable_answer.specs.Asks.{specifiers_of, is_candidate, names_prerelease}
 use Rattle.reqtable_requirements.specs.Asks.{lines_of}
 use Rattle.reqtable_requirements.specs.LineReading.{LineRecord}
@@ -22,7 +22,7 @@ use Rattle.reqtable_cases.specs.Lines.{marked}
 use Rattle.reqtable_cases.specs.Usable.{IsRangeOf}
 use Rattle.reqtable_table.specs.Answers.{SameLine, SamePackage, kept_marks}
 use Rattle.reqtable_table.specs.Cases.{IsCaseOf, HasItsCases}
-use Rattle.reqtable_run.specs.Told.{is_bound}
+use Rattle.reqtable_search.specs.Told.{is_bound}
 use Rattle.reqtable_table.specs.Kept.{KeptLine, KeptCase, KeptPackage, Keeps, KeepsAll, kept_front}
 use Rattle.reqtable_table.specs.Kept.{kept_under, names_in}
 use Rattle.reqtable_table.specs.Runs.{RunsRecord, AreRunsOf}

@@ -12,13 +12,13 @@ use Rattle.pep440_specifier_list.specs.ListReading.{IsReadFromText}
 use Rattle.pep440_range.specs.Agreement.{IsSaid}
 use Rattle.pep508_tree.specs.Meaning.{NodeRecord}
 use Rattle.pep508_url.specs.UrlTexts.{Verbatim}
-use Rattle.pep508_url.specs.declared.error.VerbatimUrlError.{VerbatimUrlError}
+use Rattle.pep508_url.specs.declared.url_error.VerbatimUrlError.{VerbatimUrlError}
 use Rattle.pep508_requirement.specs.declared.version_or_url.VersionOrUrl.{VersionOrUrl}
 use Rattle.pep508_requirement.specs.declared.version_or_url.VersionOrUrl.TheVariants.{VersionSpecifier, Url}
 use Rattle.reqtable_requirements.specs.LineSpecifiers.{specifiers_by, specifiers_in}
 use Rattle.reqtable_requirements.specs.ReadLines.{AreRead}
 use Rattle.reqtable_requirements.specs.declared.requirements.Line.{Line}
-use Rattle.reqtable_groups.specs.declared.grouping.Group.{Group}
+use Rattle.reqtable_groups.specs.declared.lines_by_package.Group.{Group}
 use Rattle.reqtable_table.specs.Building.{IsPackageOf}
 use Rattle.reqtable_groups.specs.Given.{given_by, is_url_by, is_under, AreGrouped}
 use Rattle.reqtable_table.specs.Kept.{KeptLine, KeptPackage, kept_under, names_in}

@@ -28,7 +28,7 @@ use Rattle.reqtable_cases.proofs.Taken.{usable_takes}
 use Rattle.reqtable_table.specs.declared.kept.TableLine.{TableLine}
 use Rattle.reqtable_table.specs.Choosing.{case_asks, Tells}
 use Rattle.reqtable_table.specs.Standing.{HasItsFlags, IsOfTexts}
-use Rattle.reqtable_run.specs.Told.{is_bound}
+use Rattle.reqtable_search.specs.Told.{is_bound}
 use Rattle.reqtable_table.specs.Kept.{KeptLine, kept_source, kept_front}
 use Rattle.reqtable_table.proofs.AskedLines.{records}
 use Rattle.reqtable_table.proofs.MarkedAsks.{flag_seen}

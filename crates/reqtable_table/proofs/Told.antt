@@ -11,9 +11,9 @@ use Rattle.std.specs.Ordering.{nat_cmp, ordering_then}
 use Rattle.pep440_version.specs.Record.{VersionRecord}
 use Rattle.pep508_tree.specs.Tree.{always}
 use Rattle.pep508_cases.specs.Cases.{Marks}
-use Rattle.reqtable_text.specs.Ordered.{placed_seen}
-use Rattle.reqtable_text.specs.declared.candidates.Candidate.{Candidate}
-use Rattle.reqtable_text.specs.declared.ordered.Placed.{Placed}
+use Rattle.reqtable_candidates.specs.Ordered.{placed_seen}
+use Rattle.reqtable_candidates.specs.declared.candidates.Candidate.{Candidate}
+use Rattle.reqtable_candidates.specs.declared.ordered.Placed.{Placed}
 use Rattle.reqtable_answer.specs.Admission.{Admits, AnswersBy}
 use Rattle.reqtable_answer.specs.Asks.{is_candidate}
 use Rattle.reqtable_answer.specs.Rows.{IsTakenBelow}

@@ -15,7 +15,7 @@ use Rattle.pep508_diagram.specs.Question.{Valuation}
 use Rattle.pep508_tree.specs.Meaning.{NodeRecord}
 use Rattle.pep508_requirement_text.specs.FrontReading.{Front}
 use Rattle.pep508_cases.specs.Cases.{Marks}
-use Rattle.reqtable_text.specs.declared.candidates.Candidate.{Candidate}
+use Rattle.reqtable_candidates.specs.declared.candidates.Candidate.{Candidate}
 use Rattle.reqtable_answer.specs.declared.answer.Outcome.{Outcome}
 use Rattle.reqtable_answer.specs.declared.answer.Outcome.TheVariants.{Direct}
 use Rattle.reqtable_answer.specs.Admission.{Admits}
@@ -23,7 +23,7 @@ use Rattle.reqtable_answer.specs.Answer.{RowRecord, chosen}
 use Rattle.reqtable_answer.specs.Asks.{has_url, has_extra, ask_takes, may_be_taken, names_prerelease}
 use Rattle.reqtable_cases.specs.Lines.{marked}
 use Rattle.reqtable_cases.specs.Usable.{is_usable, members_asked, points_of, IsRangeOf}
-use Rattle.reqtable_run.specs.Told.{is_plain, is_told}
+use Rattle.reqtable_search.specs.Told.{is_plain, is_told}
 use Rattle.reqtable_table.specs.declared.kept.TableLine.{TableLine}
 use Rattle.reqtable_table.specs.declared.table.Case.{Case}
 use Rattle.reqtable_table.specs.Kept.{KeptLine, KeptPackage, kept_front}

@@ -11,13 +11,13 @@ use Rattle.pep440_specifier.specs.Matching.{SpecifierRecord}
 use Rattle.pep440_specifier_list.specs.Lists.{CountedRecord, IsInOrder}
 use Rattle.pep508_tree.specs.Tree.{Tree}
 use Rattle.pep508_tree.specs.Meaning.{NodeRecord}
-use Rattle.pep508_marker_read.specs.MarkerOutcome.{IsTreeOf}
+use Rattle.pep508_marker_parser.specs.MarkerOutcome.{IsTreeOf}
 use Rattle.pep508_requirement_text.specs.FrontReading.{Source, Front}
 use Rattle.pep508_requirement_text.specs.FrontReading.Source.{Specifiers, Url}
 use Rattle.reqtable_answer.specs.Asks.{specifiers_of, is_url}
 use Rattle.reqtable_requirements.specs.LineReading.{LineRecord}
 use Rattle.reqtable_requirements.specs.Asks.{lines_of}
-use Rattle.reqtable_run.specs.Told.{is_bound}
+use Rattle.reqtable_search.specs.Told.{is_bound}
 use Rattle.reqtable_cases.specs.Lines.{is_named}
 
 -- a line of a package: its number, extras and marker, whether it has a URL, whether one of its specifiers has

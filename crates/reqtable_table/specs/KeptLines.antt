@@ -4,7 +4,7 @@ use Rattle.std.specs.List.{list_any}
 use Rattle.reqtable_groups.specs.declared.given.Given.{Given}
 use Rattle.reqtable_table.specs.declared.kept.TableLine.{TableLine}
 use Rattle.reqtable_table.specs.declared.table.Package.{Package}
-use Rattle.reqtable_run.specs.Told.{is_bound}
+use Rattle.reqtable_search.specs.Told.{is_bound}
 use Rattle.reqtable_table.specs.Kept.{KeptLine, KeptPackage}
 use Rattle.reqtable_table.specs.Casing.{case_record}
 

@@ -1,7 +1,7 @@
 -- The known outcomes of packages and their candidates, as records.
 use Rattle.std.specs.Prelude.{List, map}
-use Rattle.reqtable_text.specs.Ordered.{placed_seen, OrderedRecord}
-use Rattle.reqtable_text.specs.declared.ordered.Placed.{Placed}
+use Rattle.reqtable_candidates.specs.Ordered.{placed_seen, OrderedRecord}
+use Rattle.reqtable_candidates.specs.declared.ordered.Placed.{Placed}
 use Rattle.reqtable_table.specs.declared.runs.Told.{Told}
 use Rattle.reqtable_table.specs.Runs.{OwnRecord, RunsRecord}
 

@@ -7,9 +7,9 @@ use Rattle.pep440_version.specs.Record.{VersionRecord}
 use Rattle.pep508_diagram.specs.Question.{Valuation}
 use Rattle.pep508_tree.specs.Meaning.{NodeRecord}
 use Rattle.pep508_cases.specs.Cases.{Marks}
-use Rattle.reqtable_text.specs.Candidates.{HavePrintableVersions}
-use Rattle.reqtable_text.specs.Ordered.{AreInOrder}
-use Rattle.reqtable_text.specs.declared.candidates.Candidate.{Candidate}
+use Rattle.reqtable_candidates.specs.Candidates.{HavePrintableVersions}
+use Rattle.reqtable_candidates.specs.Ordered.{AreInOrder}
+use Rattle.reqtable_candidates.specs.declared.candidates.Candidate.{Candidate}
 use Rattle.reqtable_answer.specs.Admission.{Admits, AnswersBy}
 use Rattle.reqtable_answer.specs.Asks.{is_candidate}
 use Rattle.reqtable_answer.specs.Rows.{IsTakenBelow}

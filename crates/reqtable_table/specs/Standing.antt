@@ -6,7 +6,7 @@ use Rattle.std.specs.Ordering.{nat_cmp}
 use Rattle.std.specs.Cmp.Lexicographic.{slice_cmp}
 use Rattle.pep440_specifier.specs.Building.{IsBuilt}
 use Rattle.pep440_range.specs.Agreement.{IsSaid}
-use Rattle.reqtable_run.specs.Told.{is_bound}
+use Rattle.reqtable_search.specs.Told.{is_bound}
 use Rattle.reqtable_table.specs.Kept.{KeptLine, KeptPackage, names_in}
 
 -- a line's flags are those of its specifiers, and one with a URL has none

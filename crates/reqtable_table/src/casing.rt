@@ -6,13 +6,13 @@ ghost use Rattle.pep440_specifier_list.specs.Lists.{any_prerelease};
 ghost use Rattle.reqtable_range.specs.Together.{lent};
 ghost use Rattle.reqtable_cases.specs.Lines.{marked};
 ghost use Rattle.reqtable_cases.specs.Usable.{IsRangeOf};
-ghost use Rattle.pep508_cases.specs.Cases.{case_seen, cases_seen};
+ghost use Rattle.pep508_cases.specs.Seen.{case_seen, cases_seen};
 ghost use Rattle.reqtable_table.specs.Casing.{lent_given, given_front, case_record, IsCaseOfGiven, HaveMarks};
 
 use crate::table::Case;
 use pep440_specifier::VersionSpecifier;
 use pep440_version::Version;
-use pep508_cases::TreeCase;
+use pep508_cases::{TreeCase, TreeSet};
 use pep508_tree::MarkerTree;
 use reqtable_cases::asked_range;
 use reqtable_groups::Given;
@@ -52,7 +52,7 @@ fn case_of(alloc: Global, lines: &[Given], set: TreeCase) -> Result<Case, AllocE
     requires { HaveMarks (length lines.now) (case_seen set) }
     ensures { IfOk result (λ case. IsCaseOfGiven lines.now (case_record case) (case_seen set)) }
 {
-    let own = marked_lines(alloc, &set.marks, lines)?;
+    let own = marked_lines(alloc, &set.set, lines)?;
     let range = range_of(alloc, &own)?;
     let pre = any_prerelease(&own);
     Ok(Case {
@@ -63,18 +63,19 @@ fn case_of(alloc: Global, lines: &[Given], set: TreeCase) -> Result<Case, AllocE
     })
 }
 
-/// References to the lines that are marked.
+/// Returns references to the lines of a set.
 fn marked_lines<'a>(
     alloc: Global,
-    marks: &[bool],
+    set: &TreeSet,
     lines: &'a [Given],
 ) -> Result<Vec<&'a Given>, AllocError>
-    requires { length marks.now ≡ length lines.now }
-    ensures { IfOk result (λ own. lent_given own.items ≡ marked marks.now lines.now) }
+    requires { length set.now ≡ length lines.now }
+    ensures { IfOk result (λ own. lent_given own.items ≡ marked set.now lines.now) }
 {
-    let mut own = Vec::new(alloc);
-    for (index, line) in lines.iter().enumerate() {
-        if marks[index] {
+    let places = set.places(alloc)?;
+    let mut own = Vec::with_capacity(alloc, places.len())?;
+    for place in &places {
+        if let Some(line) = lines.get(*place) {
             own.push(line)?;
         }
     }

@@ -7,8 +7,8 @@ use pep440_specifier_list::CountedSpecifiers;
 use pep508_name::ExtraName;
 use pep508_tree::MarkerTree;
 use reqtable_groups::Given;
-use reqtable_holding::Slots;
-use reqtable_run::telling::has_bound;
+use reqtable_marker_cache::Slots;
+use reqtable_search::telling::has_bound;
 use std::alloc::{AllocError, Global};
 
 /// A line of a package.

@@ -1,14 +1,14 @@
 //! Tables of cases: for each package of a requirements text, which of its lines apply together.
 #![tactic(auto)]
 
-mod answering;
 mod asked;
 mod casing;
-mod choosing;
+mod choosing_by_case;
 mod kept;
 mod row;
 mod runs;
 mod table;
+mod table_answer;
 
 pub use runs::Runs;
 pub use table::{Case, Table, TableError};

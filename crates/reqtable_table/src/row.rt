@@ -5,12 +5,12 @@ ghost use Rattle.std.specs.Prelude.{length, map, get_or, option_map, None, All, 
 ghost use Rattle.std.specs.Option.{option_map_or};
 ghost use Rattle.std.specs.List.{AllZip, AllByRecursion};
 ghost use Rattle.pep440_range.specs.Agreement.{IsSaid};
-ghost use Rattle.reqtable_text.specs.Ordered.{placed_seen};
+ghost use Rattle.reqtable_candidates.specs.Ordered.{placed_seen};
 ghost use Rattle.reqtable_answer.specs.Admission.{Admits, AnswersBy};
 ghost use Rattle.reqtable_answer.specs.Rows.{row_seen, IsTakenBelow};
 ghost use Rattle.reqtable_cases.specs.Lines.{marked};
-ghost use Rattle.reqtable_holding.specs.Known.{AreKnown};
-ghost use Rattle.reqtable_holding.specs.Settings.{nodes_in, valuation_in};
+ghost use Rattle.reqtable_marker_cache.specs.Known.{AreKnown};
+ghost use Rattle.reqtable_marker_cache.specs.Settings.{nodes_in, valuation_in};
 ghost use Rattle.reqtable_table.specs.Answers.{kept_asked, most_tests, most_tests_in, most_tests_of};
 ghost use Rattle.reqtable_table.specs.Answers.{AreRowsFor, IsRowIf, SameLine, SamePackage};
 ghost use Rattle.reqtable_table.specs.Cases.{HasItsCases};
@@ -24,15 +24,15 @@ ghost use Rattle.reqtable_table.specs.Runs.{AreOrdered, AreRunsOf, IsTold, AreTo
 ghost use Rattle.reqtable_table.specs.Standing.{HasItsFlags, IsOfTexts, HasItsLines};
 
 use crate::asked::{extras_of, mark, place_of};
-use crate::choosing::{any_marked, chosen};
+use crate::choosing_by_case::{any_marked, chosen};
 use crate::kept::TableLine;
 use crate::runs::Told;
 use crate::table::{Case, Package};
 use pep440_version::Version;
 use reqtable_answer::{Admission, Outcome, Row};
-use reqtable_holding::{Known, Setting};
-use reqtable_run::Run;
-use reqtable_text::Ordered;
+use reqtable_candidates::Ordered;
+use reqtable_marker_cache::{Known, Setting};
+use reqtable_search::Run;
 use std::alloc::{AllocError, Global};
 
 /// The rows of the packages of which a line applies; `slots` is the number of distinct markers.

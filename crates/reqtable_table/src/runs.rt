@@ -12,8 +12,8 @@ ghost use Rattle.reqtable_table.specs.Runs.{AreRunsOf, AreUntold};
 
 use crate::table::Table;
 use reqtable_answer::Outcome;
-use reqtable_run::Run;
-use reqtable_text::Ordered;
+use reqtable_candidates::Ordered;
+use reqtable_search::Run;
 use std::alloc::{AllocError, Global};
 use std::marker::Model;
 

@@ -32,7 +32,7 @@ use pep508_cases::{CasesError, tree_cases};
 use pep508_name::PackageName;
 use pep508_tree::{Interner, MarkerTree};
 use reqtable_groups::{Group, grouped};
-use reqtable_holding::Slots;
+use reqtable_marker_cache::Slots;
 use reqtable_requirements::Requirements;
 use std::alloc::{AllocError, AllocFailed, Global};
 use std::error::Error;

@@ -6,7 +6,7 @@ ghost use Rattle.std.specs.Prelude.{◌≡◌, false, ℕ, List, length, filter,
 ghost use Rattle.std.specs.List.{AllZip, AllByRecursion};
 ghost use Rattle.pep508_diagram.specs.Question.{Valuation};
 ghost use Rattle.pep508_tree.specs.Meaning.{NodeRecord, Extends, holds};
-ghost use Rattle.reqtable_text.specs.declared.candidates.Candidate.{Candidate};
+ghost use Rattle.reqtable_candidates.specs.declared.candidates.Candidate.{Candidate};
 ghost use Rattle.reqtable_answer.specs.Answer.{Admits, RowRecord, IsAnswer};
 ghost use Rattle.reqtable_requirements.specs.Asks.{lines_of, asks_of};
 ghost use Rattle.reqtable_requirements.specs.LineReading.{LineRecord};

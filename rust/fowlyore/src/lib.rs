@@ -57,10 +57,10 @@ pub use requirement::Requirement;
 pub use specifiers::VersionSpecifiers;
 pub use version::Version;
 
-/// The version number of the linked library's interface, which is 2.
+/// The version number of the linked library's interface, which is 3.
 ///
 /// ```
-/// assert_eq!(fowlyore::abi(), 2);
+/// assert_eq!(fowlyore::abi(), 3);
 /// assert!(fowlyore::is_known());
 /// ```
 #[must_use]

@@ -14,7 +14,7 @@ pub(crate) struct Reply {
     len: usize,
 }
 
-const ABI: u32 = 2;
+const ABI: u32 = 3;
 const DIFFERENT: u32 = 1;
 const REFUSED: u32 = 2;
 const MEMORY: u32 = 3;

@@ -1,7 +1,7 @@
 use Rattle.pep508_reading_back.proofs.ReadRequirements.{printed_read}
 use Rattle.pep508_reading_back.proofs.Requirements.{requirement_read}
 use Rattle.pep508_requirement_ref.specs.RequirementPrint.{requirement_text}
-use Rattle.pep508_marker_text.specs.MarkerText.{marker_text}
+use Rattle.pep508_marker_text_laws.specs.MarkerText.{marker_text}
 use Rattle.pep508_reading_back.proofs.laws.a_printed_requirement_reads_back.Goals as goal
 
 pub returns : goal.returns

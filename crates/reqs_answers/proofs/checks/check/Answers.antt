@@ -1,8 +1,8 @@
 use Rattle.std.proofs.Common.{◌≡◌, ℕ, ◌∷◌, [], Vec, Global, refl, rules, string_bytes}
 use Rattle.std.proofs.lemmas.Result.{err_from_is_err_and}
-use Rattle.reqs_ends.specs.declared.fault.Input.TheVariants.{First}
-use Rattle.reqs_ends.specs.declared.fault.Status.TheVariants.{Answered}
-use Rattle.reqs_ends.proofs.Steps.{first_unread, second_unread, third_unread, answered}
+use Rattle.reqs_io_faults.specs.declared.fault.Input.TheVariants.{First}
+use Rattle.reqs_io_faults.specs.declared.fault.Status.TheVariants.{Answered}
+use Rattle.reqs_io_faults.proofs.Steps.{first_unread, second_unread, third_unread, answered}
 use Rattle.reqs_answers.proofs.Whole.{list_refused}
 use Rattle.reqs_answers.proofs.checks.check.Goals as goal
 

@@ -1,8 +1,8 @@
 use Rattle.std.proofs.Common.{refl}
 use Rattle.std.proofs.lemmas.Result.{err_from_is_err_and}
-use Rattle.reqs_ends.specs.Faults.{IsPlain}
+use Rattle.reqs_io_faults.specs.Faults.{IsPlain}
 use Rattle.reqs_answers.specs.Texts.{behind_lines}
-use Rattle.reqs_ends.proofs.Steps.{refuses_rest}
+use Rattle.reqs_io_faults.proofs.Steps.{refuses_rest}
 use Rattle.reqs_answers.proofs.checks.text_behind.Goals as goal
 
 pub returns-in_err-environment : goal.returns-in_err-environment

@@ -1,7 +1,7 @@
 use Rattle.std.proofs.Common.{ℕ, ◌∷◌, [], Vec, Global, refl}
 use Rattle.std.proofs.lemmas.Result.{err_from_is_err_and}
-use Rattle.reqs_ends.specs.declared.fault.Input.TheVariants.{First}
-use Rattle.reqs_ends.proofs.Steps.{first_unread, second_unread, third_unread}
+use Rattle.reqs_io_faults.specs.declared.fault.Input.TheVariants.{First}
+use Rattle.reqs_io_faults.proofs.Steps.{first_unread, second_unread, third_unread}
 use Rattle.reqs_answers.proofs.Whole.{may_be_said, list_refused, text_written, unwritten}
 use Rattle.reqs_answers.proofs.matrices.matrix.Goals as goal
 

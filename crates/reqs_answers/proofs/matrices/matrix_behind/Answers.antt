@@ -1,9 +1,9 @@
 use Rattle.std.proofs.Common.{◌∙◌, Ok, ap, sym, refl, inl}
 use Rattle.std.proofs.lemmas.Result.{err_from_is_err_and}
 use Rattle.reqtable_requirements.proofs.Asked.{are_of_nodes}
-use Rattle.reqs_ends.specs.Faults.{IsPlain}
+use Rattle.reqs_io_faults.specs.Faults.{IsPlain}
 use Rattle.reqs_answers.specs.Texts.{behind_lines}
-use Rattle.reqs_ends.proofs.Steps.{refuses_rest}
+use Rattle.reqs_io_faults.proofs.Steps.{refuses_rest}
 use Rattle.reqs_answers.proofs.Whole.{unbuilt}
 use Rattle.reqs_answers.proofs.matrices.matrix_behind.Goals as goal
 

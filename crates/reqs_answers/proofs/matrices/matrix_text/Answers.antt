@@ -1,9 +1,9 @@
 use Rattle.std.proofs.Common.{◌∙◌, Ok, ap, sym, inl}
 use Rattle.std.proofs.lemmas.Result.{err_from_is_err_and}
-use Rattle.reqs_ends.specs.declared.fault.Input.TheVariants.{First}
-use Rattle.reqs_ends.specs.Faults.{IsPlain, IsOfTexts}
+use Rattle.reqs_io_faults.specs.declared.fault.Input.TheVariants.{First}
+use Rattle.reqs_io_faults.specs.Faults.{IsPlain, IsOfTexts}
 use Rattle.reqs_answers.specs.Texts.{texts_of}
-use Rattle.reqs_ends.proofs.Steps.{refuses_rest, refuses_texts}
+use Rattle.reqs_io_faults.proofs.Steps.{refuses_rest, refuses_texts}
 use Rattle.reqs_answers.proofs.Whole.{whole_matrix}
 use Rattle.reqs_answers.proofs.matrices.matrix_text.Goals as goal
 

@@ -1,6 +1,6 @@
 use Rattle.std.proofs.Common.{◌≡◌, ◌∙◌, ◌++◌, All, List, length, map, ap, subst}
 use Rattle.pep508_evaluation.specs.Valuations.{valuation_of}
-use Rattle.reqtable_text.specs.declared.candidates.Candidate.{Candidate}
+use Rattle.reqtable_candidates.specs.declared.candidates.Candidate.{Candidate}
 use Rattle.reqtable_answer.specs.Answer.{IsAnswer}
 use Rattle.reqtable_answer.specs.Rows.{row_seen, IsTakenBelow}
 use Rattle.reqtable_requirements.specs.Asks.{asks_of}

@@ -1,5 +1,5 @@
 use Rattle.std.proofs.Common.{map, rules, string_bytes}
-use Rattle.reqs_ends.specs.Ends.{of_input}
+use Rattle.reqs_io_faults.specs.Ends.{of_input}
 use Rattle.reqs_json.proofs.Said.{told}
 use Rattle.reqs_json.proofs.faults.fault_line.Goals as goal
 

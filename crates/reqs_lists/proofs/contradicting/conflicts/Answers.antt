@@ -1,6 +1,6 @@
 use Rattle.std.proofs.Common.{◌≡◌, ℕ, ◌∷◌, [], Vec, Global, rules, string_bytes}
 use Rattle.std.proofs.lemmas.Result.{err_from_is_err_and}
-use Rattle.reqs_ends.proofs.Steps.{first_unread, answered}
+use Rattle.reqs_io_faults.proofs.Steps.{first_unread, answered}
 use Rattle.reqs_lists.proofs.Told.{conflicts_refused}
 use Rattle.reqs_lists.proofs.contradicting.conflicts.Goals as goal
 

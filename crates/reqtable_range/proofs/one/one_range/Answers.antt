@@ -1,5 +1,5 @@
 use Rattle.std.proofs.Common.{sym, subst, All}
-use Rattle.reqtable_range.specs.declared.sorting.Kind.TheVariants.{Simple, Plain}
+use Rattle.reqtable_range.specs.declared.specifier_sets.Kind.TheVariants.{Simple, Plain}
 use Rattle.reqtable_range.specs.Sorting.{IsOfKind}
 use Rattle.reqtable_range.specs.Together.{lent, IsShared}
 use Rattle.reqtable_range.proofs.Telling.{simple_have, plain_have}

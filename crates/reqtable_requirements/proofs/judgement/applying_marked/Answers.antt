@@ -6,7 +6,7 @@ use Rattle.std.proofs.Common.{Bool}
 use Rattle.pep508_diagram.specs.Question.{Valuation}
 use Rattle.pep508_expression.specs.Expressions.{expression_holds}
 use Rattle.pep508_formula.specs.Postfix.{formula_of}
-use Rattle.pep508_marker_read.specs.Formula.{formula_holds}
+use Rattle.pep508_marker_parser.specs.Formula.{formula_holds}
 use Rattle.reqtable_requirements.specs.declared.marked.MarkedLine.{MarkedLine}
 use Rattle.reqtable_requirements.proofs.Applying.{one_more, passed_over}
 use Rattle.reqtable_requirements.proofs.judgement.applying_marked.Goals as goal

@@ -3,8 +3,8 @@ use Rattle.std.proofs.Common.{rules, arith}
 use Rattle.std.proofs.lemmas.Iterator.Consumers.{YieldsList-at, YieldsList-end, YieldsList-so_far}
 use Rattle.std.proofs.lemmas.Iterator.Consumers.{YieldsList-turn, YieldsList-from_enumerate}
 use Rattle.std.proofs.lemmas.Iterator.Splits.{YieldsList-from_str_split}
-use Rattle.reqtable_text.specs.TextLines.{is_blank, text_lines, each_line}
-use Rattle.reqtable_text.proofs.Lines.{lines_of, numbered, seen, lines_all, lines_split, lines_more_kept}
+use Rattle.reqtable_candidates.specs.TextLines.{is_blank, text_lines, each_line}
+use Rattle.reqtable_candidates.proofs.Lines.{lines_of, numbered, seen, lines_all, lines_split, lines_more_kept}
 use Rattle.reqtable_requirements.specs.declared.marked.MarkedLine.{MarkedLine}
 use Rattle.reqtable_requirements.specs.LineReading.{line_of}
 use Rattle.reqtable_requirements.specs.Requirements.{SaysLine, ReadsLine}

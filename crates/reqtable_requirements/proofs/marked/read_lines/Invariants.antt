@@ -1,4 +1,4 @@
-use Rattle.reqtable_text.proofs.Lines.{lines_of}
+use Rattle.reqtable_candidates.proofs.Lines.{lines_of}
 use Rattle.reqtable_requirements.proofs.Lines.{AreReadOf}
 use Rattle.reqtable_requirements.proofs.marked.read_lines.Given as goal
 

@@ -4,7 +4,7 @@ use Rattle.pep508_tree.specs.Meaning.{IsTree, holds}
 use Rattle.reqtable_table.specs.declared.kept.TableLine.{TableLine}
 use Rattle.reqtable_table.specs.Kept.{KeptLine}
 use Rattle.reqtable_table.specs.KeptLines.{line_record}
-use Rattle.reqtable_holding.specs.Settings.{nodes_in, valuation_in}
+use Rattle.reqtable_marker_cache.specs.Settings.{nodes_in, valuation_in}
 use Rattle.reqtable_table.proofs.Finding.{all_at, seen_more}
 use Rattle.reqtable_table.proofs.MarkedAsks.{marks_seen}
 use Rattle.reqtable_table.proofs.asked.mark.Goals as goal

@@ -1,7 +1,7 @@
 use Rattle.std.proofs.Common.{◌≡◌, map, take}
 use Rattle.pep508_tree.specs.Meaning.{holds}
-use Rattle.reqtable_holding.specs.Known.{AreKnown}
-use Rattle.reqtable_holding.specs.Settings.{nodes_in, valuation_in}
+use Rattle.reqtable_marker_cache.specs.Known.{AreKnown}
+use Rattle.reqtable_marker_cache.specs.Settings.{nodes_in, valuation_in}
 use Rattle.reqtable_table.proofs.asked.mark.Given as goal
 
 abbrev pub invariant-loop-line : goal.invariant-loop-line

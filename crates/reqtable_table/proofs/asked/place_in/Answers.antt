@@ -5,7 +5,7 @@ use Rattle.std.specs.List.{list_any}
 use Rattle.reqtable_cases.specs.Lines.{marked}
 use Rattle.reqtable_table.specs.Answers.{kept_marks}
 use Rattle.reqtable_table.specs.Casing.{case_record}
-use Rattle.reqtable_holding.specs.Settings.{nodes_in, valuation_in}
+use Rattle.reqtable_marker_cache.specs.Settings.{nodes_in, valuation_in}
 use Rattle.reqtable_table.proofs.AskedLines.{records}
 use Rattle.reqtable_table.proofs.MarkedAsks.{any_mark}
 use Rattle.reqtable_table.proofs.asked.place_in.Goals as goal

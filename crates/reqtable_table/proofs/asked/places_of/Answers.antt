@@ -1,11 +1,11 @@
 use Rattle.std.proofs.Common.{◌+◌, map, take, subst, rules}
 use Rattle.std.proofs.lemmas.List.{take_all}
 use Rattle.std.specs.List.{AllZip}
-use Rattle.reqtable_holding.proofs.Holding.{none_known}
+use Rattle.reqtable_marker_cache.proofs.Holding.{none_known}
 use Rattle.reqtable_table.specs.Answers.{LiesIn}
 use Rattle.reqtable_table.specs.Cases.{HasItsCases}
 use Rattle.reqtable_table.specs.KeptLines.{package_record}
-use Rattle.reqtable_holding.specs.Settings.{nodes_in, valuation_in}
+use Rattle.reqtable_marker_cache.specs.Settings.{nodes_in, valuation_in}
 use Rattle.reqtable_table.specs.Standing.{HasItsLines}
 use Rattle.reqtable_table.proofs.Finding.{all_at, seen_more}
 use Rattle.reqtable_table.proofs.Packages.{zip_pushed}

@@ -1,7 +1,7 @@
 use Rattle.std.proofs.Common.{map, take}
 use Rattle.std.specs.List.{AllZip}
-use Rattle.reqtable_holding.specs.Known.{AreKnown}
-use Rattle.reqtable_holding.specs.Settings.{nodes_in, valuation_in}
+use Rattle.reqtable_marker_cache.specs.Known.{AreKnown}
+use Rattle.reqtable_marker_cache.specs.Settings.{nodes_in, valuation_in}
 use Rattle.reqtable_table.specs.Answers.{LiesIn}
 use Rattle.reqtable_table.specs.KeptLines.{package_record}
 use Rattle.reqtable_table.proofs.asked.places_of.Given as goal

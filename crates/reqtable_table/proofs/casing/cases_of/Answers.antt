@@ -2,7 +2,7 @@ use Rattle.std.proofs.Common.{◌≡◌, ◌∙◌, ◌++◌, ◌∷◌, [], map
 use Rattle.std.proofs.lemmas.List.{map-append}
 use Rattle.std.specs.List.{AllByRecursion}
 use Rattle.std.specs.Vec.Iter.{into_iter_items}
-use Rattle.pep508_cases.specs.Cases.{case_seen, cases_seen}
+use Rattle.pep508_cases.specs.Seen.{case_seen, cases_seen}
 use Rattle.reqtable_table.specs.Casing.{case_record, HaveMarks, IsCaseOfGiven}
 use Rattle.reqtable_table.proofs.Packages.{zip_pushed}
 use Rattle.reqtable_table.proofs.casing.cases_of.Goals as goal

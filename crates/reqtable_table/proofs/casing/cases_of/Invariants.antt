@@ -1,7 +1,7 @@
 use Rattle.std.proofs.Common.{◌≡◌, ◌++◌, map, length}
 use Rattle.std.specs.List.{AllZip, AllByRecursion}
 use Rattle.std.specs.Vec.Iter.{into_iter_items}
-use Rattle.pep508_cases.specs.Cases.{cases_seen}
+use Rattle.pep508_cases.specs.Seen.{cases_seen}
 use Rattle.reqtable_table.specs.Casing.{case_record, HaveMarks, IsCaseOfGiven}
 use Rattle.reqtable_table.proofs.casing.cases_of.Given as goal
 

@@ -1,6 +1,6 @@
 use Rattle.std.proofs.Common.{◌∙◌, map, refl, sym, ap}
 use Rattle.std.proofs.lemmas.List.{length-map}
-use Rattle.reqtable_text.specs.Ordered.{placed_seen}
+use Rattle.reqtable_candidates.specs.Ordered.{placed_seen}
 use Rattle.reqtable_table.specs.Choosing.{case_asks, outcome_in_order}
 use Rattle.reqtable_table.specs.KeptLines.{line_record, package_record}
 use Rattle.reqtable_table.specs.Owns.{own_record}

@@ -1,6 +1,6 @@
 use Rattle.std.proofs.Common.{◌∙◌, ◌<◌, Some, None, map, sym, subst, rules}
 use Rattle.std.specs.Option.{IfSome}
-use Rattle.reqtable_text.specs.Ordered.{placed_seen}
+use Rattle.reqtable_candidates.specs.Ordered.{placed_seen}
 use Rattle.reqtable_table.specs.Choosing.{case_asks}
 use Rattle.reqtable_table.proofs.AskedLines.{records, same_all}
 use Rattle.reqtable_table.proofs.MarkedAsks.{urls_asked}

@@ -2,9 +2,9 @@ use Rattle.std.proofs.Common.{◌≡◌, ◌∙◌, ◌≤◌, ◌<◌, ◌+◌,
 use Rattle.std.proofs.Common.{get_or, sym, ap, subst, arith}
 use Rattle.std.proofs.lemmas.List.{get_or-map, length-map}
 use Rattle.std.proofs.lemmas.Result.{IfOk-weaker}
-use Rattle.reqtable_text.specs.Ordered.{placed_seen}
-use Rattle.reqtable_text.specs.declared.candidates.Candidate.{Candidate}
-use Rattle.reqtable_text.specs.declared.ordered.Placed.{Placed}
+use Rattle.reqtable_candidates.specs.Ordered.{placed_seen}
+use Rattle.reqtable_candidates.specs.declared.candidates.Candidate.{Candidate}
+use Rattle.reqtable_candidates.specs.declared.ordered.Placed.{Placed}
 use Rattle.reqtable_answer.specs.declared.answer.Outcome.{Outcome}
 use Rattle.reqtable_answer.specs.Rows.{row_seen}
 use Rattle.reqtable_table.specs.Answers.{most_tests_in, IsRowIf}
@@ -13,8 +13,8 @@ use Rattle.reqtable_table.specs.KeptLines.{package_record}
 use Rattle.reqtable_table.specs.Owns.{runs_of}
 use Rattle.reqtable_table.specs.Runs.{IsToldIn}
 use Rattle.reqtable_table.specs.declared.runs.Told.{Told}
-use Rattle.reqtable_holding.proofs.Holding.{nothing_known}
-use Rattle.reqtable_holding.specs.Settings.{nodes_in, valuation_in}
+use Rattle.reqtable_marker_cache.proofs.Holding.{nothing_known}
+use Rattle.reqtable_marker_cache.specs.Settings.{nodes_in, valuation_in}
 use Rattle.reqtable_table.proofs.Rows.{kept_records, none_before, lines_here, cases_here, within_runs}
 use Rattle.reqtable_table.proofs.Rows.{said_here, below_here, row_here, more_here, end_here, no_more_set}
 use Rattle.reqtable_table.proofs.Told.{told_long, told_own, own_told}

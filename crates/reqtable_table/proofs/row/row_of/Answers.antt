@@ -6,7 +6,7 @@ use Rattle.std.specs.List.{list_any}
 use Rattle.pep508_diagram.specs.Question.{Valuation}
 use Rattle.pep508_tree.specs.Meaning.{NodeRecord}
 use Rattle.pep508_cases.specs.Cases.{Marks}
-use Rattle.reqtable_text.specs.Ordered.{placed_seen}
+use Rattle.reqtable_candidates.specs.Ordered.{placed_seen}
 use Rattle.reqtable_answer.specs.Asks.{has_extra}
 use Rattle.reqtable_cases.specs.Lines.{marked}
 use Rattle.reqtable_table.specs.Answers.{kept_marks, kept_asked, IsPlaceIn}
@@ -14,7 +14,7 @@ use Rattle.reqtable_table.specs.Casing.{case_record}
 use Rattle.reqtable_table.specs.Choosing.{case_asks, outcome_in_order}
 use Rattle.reqtable_table.specs.Kept.{KeptLine, KeptCase, KeptPackage}
 use Rattle.reqtable_table.specs.KeptLines.{package_record}
-use Rattle.reqtable_holding.specs.Settings.{nodes_in, valuation_in}
+use Rattle.reqtable_marker_cache.specs.Settings.{nodes_in, valuation_in}
 use Rattle.reqtable_table.proofs.AskedLines.{records}
 use Rattle.reqtable_table.proofs.MarkedAsks.{any_mark}
 use Rattle.reqtable_table.proofs.Same.{same_package}

@@ -1,14 +1,14 @@
 use Rattle.std.proofs.Common.{◌≡◌, ◌∙◌, ◌<◌, ◌+◌, ℕ, [], List, All, option_map, length, map, take, get_or}
 use Rattle.std.proofs.Common.{sym, ap, subst, arith}
 use Rattle.std.proofs.lemmas.List.{take_all, get_or-map, length-map}
-use Rattle.reqtable_text.specs.Ordered.{placed_seen}
-use Rattle.reqtable_text.specs.declared.candidates.Candidate.{Candidate}
-use Rattle.reqtable_text.specs.declared.ordered.Placed.{Placed}
+use Rattle.reqtable_candidates.specs.Ordered.{placed_seen}
+use Rattle.reqtable_candidates.specs.declared.candidates.Candidate.{Candidate}
+use Rattle.reqtable_candidates.specs.declared.ordered.Placed.{Placed}
 use Rattle.reqtable_answer.specs.Rows.{row_seen, IsTakenBelow}
 use Rattle.reqtable_table.specs.Answers.{AreRowsFor}
 use Rattle.reqtable_table.specs.Owns.{runs_of}
-use Rattle.reqtable_holding.proofs.Holding.{none_known}
-use Rattle.reqtable_holding.specs.Settings.{nodes_in, valuation_in}
+use Rattle.reqtable_marker_cache.proofs.Holding.{none_known}
+use Rattle.reqtable_marker_cache.specs.Settings.{nodes_in, valuation_in}
 use Rattle.reqtable_table.proofs.Rows.{kept_records, none_answered, lines_here, cases_here, within_runs}
 use Rattle.reqtable_table.proofs.Rows.{said_here, below_here}
 use Rattle.reqtable_table.proofs.Rows.{next_here, end_here, rows_here, seen_added, all_added}

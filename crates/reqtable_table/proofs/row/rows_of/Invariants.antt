@@ -4,8 +4,8 @@ use Rattle.reqtable_answer.specs.Rows.{row_seen, IsTakenBelow}
 use Rattle.reqtable_table.specs.Answers.{AreRowsFor}
 use Rattle.reqtable_table.specs.Owns.{runs_of}
 use Rattle.reqtable_table.specs.Runs.{AreTold}
-use Rattle.reqtable_holding.specs.Known.{AreKnown}
-use Rattle.reqtable_holding.specs.Settings.{nodes_in, valuation_in}
+use Rattle.reqtable_marker_cache.specs.Known.{AreKnown}
+use Rattle.reqtable_marker_cache.specs.Settings.{nodes_in, valuation_in}
 use Rattle.reqtable_table.proofs.Rows.{kept_records, AreAnswered}
 use Rattle.reqtable_table.proofs.row.rows_of.Given as goal
 

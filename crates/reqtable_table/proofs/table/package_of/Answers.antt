@@ -3,7 +3,8 @@ use Rattle.std.proofs.lemmas.List.{length-map}
 use Rattle.std.specs.List.{AllByRecursion, AllZip}
 use Rattle.pep508_tree.specs.Tree.{Tree}
 use Rattle.pep508_tree.specs.Meaning.{IsTree}
-use Rattle.pep508_cases.specs.Cases.{AreCases, marks_of, case_seen, cases_seen}
+use Rattle.pep508_cases.specs.Cases.{AreCases, marks_of}
+use Rattle.pep508_cases.specs.Seen.{case_seen, cases_seen}
 use Rattle.reqtable_groups.specs.declared.given.Given.{Given}
 use Rattle.reqtable_table.specs.Casing.{case_record, IsCaseOfGiven}
 use Rattle.reqtable_table.specs.KeptLines.{package_record}

@@ -1,6 +1,6 @@
 use Rattle.std.proofs.Common.{◌∙◌, Err, ap, sym}
-use Rattle.reqtable_text.specs.TextLines.{text_lines, each_line}
-use Rattle.reqtable_text.proofs.Texts.{text_is_read, no_text_is_read}
+use Rattle.reqtable_candidates.specs.TextLines.{text_lines, each_line}
+use Rattle.reqtable_candidates.proofs.Texts.{text_is_read, no_text_is_read}
 use Rattle.reqtable_requirements.specs.LineReading.{NotText, line_of}
 use Rattle.reqtable_requirements.specs.Requirements.{requirements_of, SaysLine}
 use Rattle.reqtable_requirements.proofs.Lines.{lines_err, text_err}

@@ -1,7 +1,7 @@
 use Rattle.std.proofs.Common.{Ok, List, sym, subst}
 use Rattle.std.specs.List.{AllZip}
 use Rattle.reqtable_requirements.specs.declared.marked.MarkedLine.{MarkedLine}
-use Rattle.reqtable_text.specs.TextLines.{text_lines}
+use Rattle.reqtable_candidates.specs.TextLines.{text_lines}
 use Rattle.reqtable_requirements.specs.Requirements.{requirements_of, SaysLine, StandsFor, ReadsRequirements}
 use Rattle.reqtable_requirements.proofs.Lines.{lines_err, lines_memory}
 use Rattle.reqtable_requirements.proofs.requirements.Requirements.parse.Goals as goal

@@ -5,7 +5,7 @@ use Rattle.pep508_diagram.specs.Question.{Valuation}
 use Rattle.pep508_evaluation.specs.Valuations.{valuation_of}
 use Rattle.pep508_tree.specs.Meaning.{NodeRecord}
 use Rattle.pep508_tree.proofs.Conjoining.{extends_itself}
-use Rattle.reqtable_text.specs.declared.candidates.Candidate.{Candidate}
+use Rattle.reqtable_candidates.specs.declared.candidates.Candidate.{Candidate}
 use Rattle.reqtable_answer.specs.Admission.{Admits}
 use Rattle.reqtable_answer.specs.Answer.{RowRecord}
 use Rattle.reqtable_answer.specs.Rows.{row_seen}
@@ -16,7 +16,7 @@ use Rattle.reqtable_table.specs.Kept.{KeptPackage}
 use Rattle.reqtable_table.specs.KeptLines.{package_record}
 use Rattle.reqtable_table.specs.Owns.{runs_of}
 use Rattle.reqtable_table.specs.Runs.{AreRunsOf}
-use Rattle.reqtable_holding.specs.Settings.{nodes_in, valuation_in}
+use Rattle.reqtable_marker_cache.specs.Settings.{nodes_in, valuation_in}
 use Rattle.reqtable_table.proofs.RowsOfLines.{rows_are_the_answer}
 use Rattle.reqtable_table.proofs.LentTable.{stays, runs_stay, serve, few_more}
 use Rattle.reqtable_table.proofs.table.Table.answer_among.Goals as goal

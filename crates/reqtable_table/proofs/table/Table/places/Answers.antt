@@ -7,7 +7,7 @@ use Rattle.pep508_tree.specs.Meaning.{NodeRecord}
 use Rattle.reqtable_table.specs.Answers.{LiesIn}
 use Rattle.reqtable_table.specs.Kept.{KeptPackage}
 use Rattle.reqtable_table.specs.KeptLines.{package_record}
-use Rattle.reqtable_holding.specs.Settings.{nodes_in}
+use Rattle.reqtable_marker_cache.specs.Settings.{nodes_in}
 use Rattle.reqtable_table.proofs.table.Table.places.Goals as goal
 
 pub returns-clause-lie : goal.returns-clause-lie

@@ -1,7 +1,7 @@
 use Rattle.std.proofs.Common.{◌≡◌, ◌∙◌, ◌+◌, ℕ, None, List, Option, map, filter, take, get_or, ap}
 use Rattle.std.proofs.lemmas.List.{map-append}
-use Rattle.reqtable_text.specs.Ordered.{placed_seen}
-use Rattle.reqtable_text.specs.declared.candidates.Candidate.{Candidate}
+use Rattle.reqtable_candidates.specs.Ordered.{placed_seen}
+use Rattle.reqtable_candidates.specs.declared.candidates.Candidate.{Candidate}
 use Rattle.reqtable_answer.specs.Asks.{is_candidate}
 use Rattle.reqtable_answer.specs.declared.answer.Outcome.{Outcome}
 use Rattle.reqtable_table.specs.Kept.{KeptPackage}

@@ -1,6 +1,6 @@
 use Rattle.std.proofs.Common.{◌≡◌, ℕ, None, map, filter, take, get_or}
 use Rattle.std.specs.List.{AllZip}
-use Rattle.reqtable_text.specs.Ordered.{placed_seen}
+use Rattle.reqtable_candidates.specs.Ordered.{placed_seen}
 use Rattle.reqtable_answer.specs.Asks.{is_candidate}
 use Rattle.reqtable_table.specs.KeptLines.{package_record}
 use Rattle.reqtable_table.proofs.table.Table.runs.Given as goal

@@ -1,0 +1,31 @@
+use Rattle.std.proofs.Common.{◌≡◌, ◌∙◌, ap, sym, subst, refl, [], rules}
+use Rattle.pep508_tree.specs.Meaning.{Versions, Texts, Flagged}
+use Rattle.pep508_tree.specs.Nodes.{IsChildIn, chosen, node_place}
+use Rattle.pep508_leaf_diagram.specs.Forms.{record_of}
+use Rattle.pep508_leaf_diagram.specs.Pairing.{ArePaired}
+use Rattle.pep508_leaf_diagram.proofs.Pairs.{versions_paired, texts_paired}
+use Rattle.pep508_leaf_diagram.proofs.diagram_pairs.with_first.Goals as goal
+
+pub returns-in_ok-pairs-in-Versions : goal.returns-in_ok-pairs-in-Versions
+returns-in_ok-pairs-in-Versions c =
+    let other = c.args.first.now in
+    let own = c.in-Versions.second in
+    let pairs = c.in_ok-pairs-in-Versions.pairs.items in
+    subst (λ n. ArePaired (node_place n) (λ v. other) (chosen n) (λ d. d ≡ other) (λ d. IsChildIn d n)
+    (Versions c.in-Versions.key (other, own) pairs))
+    (ap (Versions c.in-Versions.key own) c.deref.ensures.value ∙ ap record_of (sym c.in-Versions.is))
+    (versions_paired c.in-Versions.key other [] own c.deref.result.now pairs
+    c.in_ok-pairs-in-Versions.ensures.points c.in_ok-pairs-in-Versions.ensures.rises
+    c.in_ok-pairs-in-Versions.ensures.children)
+
+pub returns-in_ok-pairs-in-Texts : goal.returns-in_ok-pairs-in-Texts
+returns-in_ok-pairs-in-Texts c =
+    let other = c.args.first.now in
+    let own = c.in-Texts.second in
+    let pairs = c.in_ok-pairs-in-Texts.pairs.items in
+    subst (λ n. ArePaired (node_place n) (λ v. other) (chosen n) (λ d. d ≡ other) (λ d. IsChildIn d n)
+    (Texts c.in-Texts.key (other, own) pairs))
+    (ap (Texts c.in-Texts.key own) c.deref-in-Texts.ensures.value ∙ ap record_of (sym c.in-Texts.is))
+    (texts_paired c.in-Texts.key other [] own c.deref-in-Texts.result.now pairs
+    c.in_ok-pairs-in-Texts.ensures.points c.in_ok-pairs-in-Texts.ensures.rises
+    c.in_ok-pairs-in-Texts.ensures.children)

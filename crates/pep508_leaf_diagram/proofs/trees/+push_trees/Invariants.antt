@@ -1,0 +1,5 @@
+use Rattle.std.proofs.Common.{◌-◌}
+use Rattle.pep508_leaf_diagram.proofs.trees.+push_trees.Given as goal
+
+abbrev pub decreases-push_trees : goal.decreases-push_trees
+decreases-push_trees l = l.to - l.from

@@ -1,0 +1,174 @@
+//! The nodes of a diagram, and the children of a child.
+
+ghost use Rattle.std.specs.Prelude.{◌≡◌, ℕ, List, map, length, IfOk, MatchOption, ◌<◌};
+ghost use Rattle.pep508_tree.specs.Meaning.{NodeOf, NodeRecord, IsTree};
+ghost use Rattle.pep508_tree.specs.Nodes.{turned};
+ghost use Rattle.pep508_leaf_diagram.specs.Forms.{record_of};
+ghost use Rattle.pep508_leaf_diagram.specs.Leaves.{child_of, IsGraph, IsFit, IsOpened, IsPut, IsAbove};
+ghost use Rattle.pep508_leaf_diagram.specs.declared.child.Child.{Child};
+ghost use Rattle.pep508_leaf_diagram.specs.declared.child.Child.TheVariants.{Whole};
+ghost use Rattle.pep508_leaf_diagram.specs.Pairing.{IsDiagram, MadeIn, AboveIn};
+
+use crate::child::{Child, child_of};
+use crate::diagram::Diagram;
+use crate::form::{Form, copy_of};
+use pep508_diagram::{Branch, NodeValue};
+use pep508_tree::{Interner, MarkerTree, TreeNode};
+use std::alloc::{AllocError, Global};
+use std::marker::Model;
+
+/// A node of a diagram.
+#[derive(Drop)]
+pub struct Node {
+    form: Form<Child>,
+}
+
+impl Model for Node {
+    ghost use Rattle.pep508_tree.specs.Meaning.{NodeOf};
+    ghost use Rattle.pep508_leaf_diagram.specs.declared.child.Child.{Child};
+    ghost use Rattle.pep508_leaf_diagram.specs.Forms.{record_of};
+
+    ghost Value = { NodeOf Child };
+
+    ghost view = { λ node. record_of node.form };
+}
+
+impl Node {
+    pub(crate) fn new(form: Form<Child>) -> Node
+        ensures { result ≡ record_of form }
+    {
+        Node { form }
+    }
+
+    pub(crate) fn form(&self) -> &Form<Child>
+        ensures { record_of result.now ≡ self.now }
+    {
+        &self.form
+    }
+}
+
+/// Returns a copy of branches.
+fn copied<T: NodeValue>(
+    alloc: Global,
+    later: &[Branch<T, Child>],
+) -> Result<Vec<Branch<T, Child>>, AllocError>
+    ensures { IfOk result (λ copy. copy.items ≡ later.now) }
+{
+    let mut branches = Vec::with_capacity(alloc, later.len())?;
+    for branch in later {
+        branches.push(Branch {
+            boundary: copy_of(alloc, &branch.boundary)?,
+            child: branch.child,
+        })?;
+    }
+    Ok(branches)
+}
+
+fn copy_of_form(alloc: Global, form: &Form<Child>) -> Result<Form<Child>, AllocError>
+    ensures { IfOk result (λ copy. record_of copy ≡ record_of form.now) }
+{
+    Ok(match form {
+        Form::Versions(key, first, later) => Form::Versions(*key, *first, copied(alloc, later)?),
+        Form::Texts(key, first, later) => Form::Texts(*key, *first, copied(alloc, later)?),
+        Form::Flagged(flag, set, unset) => Form::Flagged(flag.try_clone(alloc)?, *set, *unset),
+    })
+}
+
+/// Returns the branches with a child for each tree, which is negated where the flag is set.
+fn of_trees<T: NodeValue>(
+    alloc: Global,
+    later: &[Branch<T, MarkerTree>],
+    negated: bool,
+) -> Result<Vec<Branch<T, Child>>, AllocError>
+    ensures { IfOk result (λ branches. branches.items
+        ≡ map (λ branch.
+        record { boundary = branch.boundary; child = child_of (turned negated branch.child) })
+        later.now) }
+{
+    let mut branches = Vec::with_capacity(alloc, later.len())?;
+    for branch in later {
+        branches.push(Branch {
+            boundary: copy_of(alloc, &branch.boundary)?,
+            child: child_of(branch.child.turned(negated)),
+        })?;
+    }
+    Ok(branches)
+}
+
+/// Returns the root of a tree as a variable with children, or `None` of a constant tree.
+fn form_of_tree(
+    alloc: Global,
+    interner: &Interner,
+    tree: MarkerTree,
+) -> Result<Option<Form<Child>>, AllocError>
+    requires { IsTree interner.now.nodes tree }
+    ensures { IfOk result (λ form. (leaves : ℕ) (nodes : List (NodeOf Child)) → 1 < leaves →
+        MatchOption form ((place : List ℕ) → IsAbove interner.now.nodes nodes place (Whole tree))
+        (λ form. IsOpened interner.now.nodes leaves nodes (Whole tree) (record_of form))) }
+{
+    match tree.node(interner) {
+        TreeNode::Constant(_) => Ok(None),
+        TreeNode::Versions(key, children) => {
+            let first = child_of(children.first.turned(children.negated));
+            let later = of_trees(alloc, children.later, children.negated)?;
+            Ok(Some(Form::Versions(key, first, later)))
+        }
+        TreeNode::Texts(key, children) => {
+            let first = child_of(children.first.turned(children.negated));
+            let later = of_trees(alloc, children.later, children.negated)?;
+            Ok(Some(Form::Texts(key, first, later)))
+        }
+        TreeNode::Flagged(flag, set, unset) => {
+            let flag = flag.try_clone(alloc)?;
+            Ok(Some(Form::Flagged(flag, child_of(set), child_of(unset))))
+        }
+    }
+}
+
+/// Returns the variable of a child with its children, or `None` of a leaf.
+pub(crate) fn opened(
+    alloc: Global,
+    interner: &Interner,
+    diagram: &Diagram,
+    child: Child,
+) -> Result<Option<Form<Child>>, AllocError>
+    requires diagram { IsDiagram interner.now.nodes diagram.now }
+    requires made { MadeIn interner.now.nodes diagram.now child }
+    ensures { IfOk result (λ form.
+        MatchOption form ((place : List ℕ) → AboveIn interner.now.nodes diagram.now place child)
+        (λ form. IsOpened interner.now.nodes
+        diagram.now.leaves diagram.now.nodes.items child (record_of form))) }
+{
+    match child {
+        Child::Leaf(_) => Ok(None),
+        Child::Node(place) => {
+            let form = copy_of_form(alloc, diagram.nodes[place].form())?;
+            Ok(Some(form))
+        }
+        Child::Whole(tree) => {
+            let root = form_of_tree(alloc, interner, tree)?;
+            Ok(root)
+        }
+    }
+}
+
+/// Returns a child for a variable with its children: the only child where it has one, else a new last node.
+pub(crate) fn placed(nodes: &mut Vec<Node>, form: Form<Child>) -> Result<Child, AllocError>
+    ensures { IfOk result (λ child. (inner : List NodeRecord) (leaves : ℕ) →
+        IsGraph inner leaves nodes.old.items →
+        IsFit inner leaves nodes.old.items (length nodes.old.items) (record_of form) →
+        IsPut inner leaves nodes.old.items nodes.new.items (record_of form) child) }
+{
+    crate::merge_walk::equal_children();
+    if form.is_alone() {
+        return Ok(form.first());
+    }
+    if let Form::Flagged(_, set, unset) = &form {
+        if *set == *unset {
+            return Ok(*set);
+        }
+    }
+    let place = nodes.len();
+    nodes.push(Node::new(form))?;
+    Ok(Child::Node(place))
+}

@@ -1,7 +1,0 @@
-use Rattle.std.proofs.Common.{◌≡◌, drop}
-use Rattle.pep508_marker_print.specs.Terms.{clause_of}
-use Rattle.pep508_marker_dnf.specs.TopExtra.{first_extra}
-use Rattle.pep508_marker_dnf.proofs.extra.first_extra.Given as goal
-
-abbrev pub invariant-loop-term : goal.invariant-loop-term
-invariant-loop-term l = first_extra (clause_of (drop l.term-index l.clause)) ≡ first_extra (clause_of l.clause)

@@ -1,7 +1,0 @@
-use Rattle.pep508_marker_dnf.proofs.Adding.{path_on}
-use Rattle.pep508_marker_dnf.proofs.walk.go_on.Goals as goal
-
-pub returns : goal.returns
-returns c =
-    path_on c.args.depth c.args.path.now.items c.truncate.new.self.items c.args.terms.items
-    c.append.new.self.items c.truncate.ensures.items c.in_ok-append.ensures.items

@@ -1,0 +1,13 @@
+pub use Rattle.pep508_comparison_parser.specs.Compared
+pub use Rattle.pep508_comparison_parser.specs.SideReading
+pub use Rattle.pep508_comparison_parser.specs.Outcome
+pub use Rattle.pep508_formula.specs.Formula
+pub use Rattle.pep508_formula.specs.Postfix
+pub mod MarkerReading
+pub mod MarkerText
+pub mod MarkerOutcome
+pub mod TreeReading
+pub mod FormulaReading
+pub mod FormulaTrees
+pub mod Levels
+pub mod TextOutcome

@@ -1,8 +1,0 @@
-use Rattle.std.proofs.Common.{rules}
-use Rattle.pep508_marker_print.proofs.Texts.{joined_all}
-use Rattle.pep508_marker_print.proofs.clause_text.ClausesDisplay.fmt.Goals as goal
-
-pub returns-else-is_empty-clause-writes : goal.returns-else-is_empty-clause-writes
-returns-else-is_empty-clause-writes g c =
-    rw (joined_all c.args.self.now.clauses.now c.in-Some.first.now c.in-Some.others.now (search rules)
-    (search rules)) (search rules)

@@ -1,5 +1,0 @@
-use Rattle.pep508_marker_text.proofs.Disjunctions.{disjunction_means}
-use Rattle.pep508_marker_text.proofs.laws.a_disjunction_means_its_diagram.Goals as goal
-
-pub returns : goal.returns
-returns c = λ diagram canonical releases some v. disjunction_means diagram canonical releases some v

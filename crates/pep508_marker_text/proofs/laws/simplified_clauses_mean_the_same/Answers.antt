@@ -1,5 +1,0 @@
-use Rattle.pep508_marker_text.proofs.Removals.{simplified_keeps}
-use Rattle.pep508_marker_text.proofs.laws.simplified_clauses_mean_the_same.Goals as goal
-
-pub returns : goal.returns
-returns c = λ truth clauses is. simplified_keeps is clauses

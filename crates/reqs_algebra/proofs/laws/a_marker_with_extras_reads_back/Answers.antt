@@ -1,5 +1,0 @@
-use Rattle.reqs_algebra.proofs.ReadAgain.{extras_again}
-use Rattle.reqs_algebra.proofs.laws.a_marker_with_extras_reads_back.Goals as goal
-
-pub returns : goal.returns
-returns c = extras_again

@@ -1,5 +1,0 @@
-use Rattle.reqs_algebra.proofs.KeyTexts.{one_meaning}
-use Rattle.reqs_algebra.proofs.laws.keys_are_of_meanings.Goals as goal
-
-pub returns : goal.returns
-returns c = one_meaning c.one_key.ensures

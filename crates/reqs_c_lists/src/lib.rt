@@ -1,0 +1,12 @@
+//! The C library's calls on lists: the commands of `reqs` over bytes, and which markers hold.
+#![tactic(auto)]
+
+mod checking;
+mod ending;
+mod holding;
+mod list_answers;
+mod refused_inputs;
+
+pub use checking::{check, matrix};
+pub use holding::markers_hold;
+pub use list_answers::{conflicts, normal, same};

@@ -1,7 +1,0 @@
-use Rattle.std.proofs.Common.{append_assoc}
-use Rattle.reqs_ends.proofs.Texts.{written}
-use Rattle.reqs_ends.proofs.display.RunFaultDisplay.fmt.Goals as goal
-
-pub returns-in-TooManyCases-clause-writes : goal.returns-in-TooManyCases-clause-writes
-returns-in-TooManyCases-clause-writes g c =
-    rw c.in-TooManyCases.is (written _ _ _ _ _ _ c.write-in-TooManyCases.ensures.writes (simp append_assoc))

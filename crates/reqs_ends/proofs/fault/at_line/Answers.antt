@@ -1,6 +1,0 @@
-use Rattle.std.proofs.Common.{append_assoc}
-use Rattle.reqs_ends.proofs.Texts.{made}
-use Rattle.reqs_ends.proofs.fault.at_line.Goals as goal
-
-pub returns : goal.returns
-returns c = made _ _ _ c.format.ensures.ok (simp append_assoc)

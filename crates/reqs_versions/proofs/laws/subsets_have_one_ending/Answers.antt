@@ -1,5 +1,0 @@
-use Rattle.reqs_versions.proofs.OneRange.{one_subset}
-use Rattle.reqs_versions.proofs.laws.subsets_have_one_ending.Goals as goal
-
-pub returns : goal.returns
-returns c = one_subset

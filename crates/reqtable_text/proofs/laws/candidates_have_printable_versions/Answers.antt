@@ -1,5 +1,0 @@
-use Rattle.reqtable_text.proofs.WholeCandidates.{printable_versions}
-use Rattle.reqtable_text.proofs.laws.candidates_have_printable_versions.Goals as goal
-
-pub returns : goal.returns
-returns c = printable_versions c.version_text_is_read.ensures c.read_is_printable.ensures

@@ -1,5 +1,0 @@
-use Rattle.reqtable_text.proofs.WholeCandidates.{first_fault}
-use Rattle.reqtable_text.proofs.laws.first_line_at_fault_is_named.Goals as goal
-
-pub returns : goal.returns
-returns c = first_fault c.version_text_is_read.ensures

@@ -1,8 +1,0 @@
-use Rattle.std.proofs.Common.{◌∙◌, List, ℕ, ap, refl}
-use Rattle.std.specs.Borrow.{Bor}
-use Rattle.reqtable_text.proofs.Comments.{stripped_is}
-use Rattle.reqtable_text.proofs.text_lines.strip_carriage_return.Goals as goal
-
-pub returns : goal.returns
-returns c =
-    ap (λ (line : Bor (List ℕ)). line.now) c.unwrap_or.ensures ∙ stripped_is c.args.line.now c.strip_suffix.result c.args.line c.strip_suffix.ensures.cases refl
