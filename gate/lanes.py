@@ -24,11 +24,11 @@ PAUSE = 5
 
 class Task:
     """What a task waits for, the seconds that it takes by one job, its memory in bytes, a call that gets what was given
-    and how many jobs it may use, and how many jobs are of use to it."""
+    and how many jobs it may use, how many jobs are of use to it, and the seconds that something else takes after it."""
 
-    def __init__(self, waits, seconds, memory, call, most_jobs=max(GAIN)):
+    def __init__(self, waits, seconds, memory, call, most_jobs=max(GAIN), after=0):
         self.waits, self.seconds, self.memory, self.call, self.most_jobs = waits, seconds, memory, call, most_jobs
-        self.chain = seconds
+        self.chain = seconds + after
 
     def takes(self, jobs):
         return self.memory * (1 + MORE_MEMORY * (jobs - 1))

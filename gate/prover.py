@@ -21,6 +21,8 @@ MARK = "sum"
 # What a proof takes by one job, as measured: a crate is loaded, and then so much for a line. Functions of programs and of
 # tests own more values.
 SECONDS, SECONDS_A_LINE = 7, {LIBRARY: 0.13, PROGRAM: 0.6, STATIC: 0.6, TESTS: 0.6}
+# What the gate does with a program, or with the library for C, once it is proved, in seconds.
+AFTER = {PROGRAM: 300, STATIC: 600}
 # Some checks take a fifth more memory than is reckoned.
 MEMORY = 0.85
 
@@ -117,7 +119,8 @@ class Prover:
             name, tests = (key, False) if isinstance(key, str) else (key[0], key[1] == TESTS)
             is_kept = self.store.has(self.entry(name, tests), ())
             takes = 1 if is_kept or not lines else self.seconds(name, tests, lines)
-            made[key] = Task(waits, takes, self.memory(name, tests, memory), call, self.most_jobs(name, tests))
+            after = AFTER.get(self.kind(name, tests), 0)
+            made[key] = Task(waits, takes, self.memory(name, tests, memory), call, self.most_jobs(name, tests), after)
         made.update(self.more_tasks())
         return self.run(made)
 

@@ -60,7 +60,7 @@ impl Interner {
     }
 
     /// Returns an interner of the constant trees alone, which makes no more nodes once it has more than
-    /// `most`: calls then answer `AllocError`. By `node_count` that is told from memory that ran out. Takes no
+    /// `most`: calls then answer `AllocError`. `node_count` tells this from memory that ran out. Takes no
     /// memory.
     pub fn with_most(alloc: Global, most: usize) -> Interner
         ensures nodes { result.nodes ≡ [] }
