@@ -52,11 +52,12 @@ OF_C = ("c", "c.py", "c.sh", "calls.py", "fuzz.py", "refuse.c", "runs.json")
 
 
 class Part:
-    """A part of the gate: its name, its words, the programs and files that its verdict rests on, if it is kept, and how
-    many lines it closes with."""
+    """A part of the gate: its name, its words, the programs and files that its verdict rests on, if it is kept, programs that
+    it runs besides, and how many lines it closes with."""
 
-    def __init__(self, name, words, programs=(), rests_on=(), closings=1):
+    def __init__(self, name, words, programs=(), rests_on=(), runs=(), closings=1):
         self.name, self.words, self.programs, self.rests_on, self.closings = name, words, programs, rests_on, closings
+        self.runs = {*programs, *runs}
 
     def entry(self, crates):
         """The name of its verdict in the store, or None where it is tried each time."""
@@ -108,6 +109,8 @@ def parts(more):
         Part("refused memory", ["bash", "tests/refused.sh"], ["reqs_cli", QUESTIONS], [*of_reqs, *asked]),
         Part("library for C", ["bash", "tests/c.sh"], ["reqs_c"], [*of_c, "examples", *(f"tests/{it}" for it in OF_C)]),
         Part("Python package", ["bash", "tests/python.sh"], ["reqs_c"], of_python),
+        # (that the library's answers are right the newest says)
+        Part("older Pythons", ["bash", "tests/python.sh", "--older"], [], [*of_python, "crates/reqs_c/src"], ["reqs_c"]),
         Part("lists in pieces", [*python, "tests/index.py"], ["reqs_c", "reqs_cli"], of_index),
         Part("Debian package", ["bash", "tests/deb.sh"], ["reqs_c", "reqs_cli"], of_deb),
         Part("release", ["bash", "tests/release.sh"], ["reqs_c", "reqs_cli"], of_release),
@@ -218,7 +221,7 @@ class Programs:
 
 def judged_once_built(part, crates, store, programs, turns):
     """Judges a part that runs programs, once they are there."""
-    needs = [it for it in part.programs if it in programs.names]
+    needs = sorted(part.runs & programs.names)
     if not programs.await_all(needs):
         print(f"test: {part.name}: 0 passed, 1 failed, since not all of {', '.join(needs)} was built", flush=True)
         return 0, 1, []

@@ -1,14 +1,20 @@
 #!/usr/bin/env bash
-# Tests of the Python package, by each interpreter from 3.8 on that there is, over the library that `./build reqs_c` makes; of its
-# types, by mypy; of its wheel, installed by each into an environment of its own; and packaging's own tests, where they were fetched.
+# Tests of the Python package by the newest interpreter that there is, over the library that `./build reqs_c` makes; of its types, by
+# mypy; of its wheel, installed into an environment of its own; and packaging's own tests, where they were fetched. Or the package's
+# tests and its wheel by each older interpreter from 3.8 on.
 #
-#     python.sh [LIBRARY]
+#     python.sh [--older] [LIBRARY]
 #
 # LIBRARY is taken in place of the built one. What isn't tried is told. The last line is `python: N passed, M failed`.
 set -u
 export LC_ALL=C.UTF-8 PYTHONDONTWRITEBYTECODE=1
 
 top=$(cd -- "$(dirname -- "$(readlink -f -- "${BASH_SOURCE[0]}")")/.." && pwd) || exit 1
+older=
+if [ "${1-}" = --older ]; then
+    older=yes
+    shift
+fi
 library=${1-$top/crates/reqs_c/out/libreqs.so}
 passed=0
 failed=0
@@ -55,16 +61,35 @@ run_tests() {
     FOWLYORE_EXTENSION=$3 FOWLYORE_LIBRARY=$library "$2" -W error -m unittest discover -q -t . -s tests >"$work/said-$1" 2>&1
 }
 
+# Which interpreters are tried.
+asked=("$newest")
+if [ "$older" ]; then
+    for minor in {8..13}; do
+        [ "${interpreters[3.$minor]-}" ] || echo "not tried: the tests by Python 3.$minor, which is not there (pyenv install 3.$minor)"
+    done
+    # The package's sources by the grammar of the oldest, whether that is there or not.
+    for source in "$top"/python/fowlyore/*.py; do
+        if "${interpreters[$newest]}" -c 'import ast, sys; ast.parse(open(sys.argv[1]).read(), feature_version=(3, 8))' "$source"; then
+            passed=$((passed + 1))
+        else
+            fail "$source isn't of Python 3.8"
+        fi
+    done
+    unset "interpreters[$newest]"
+    asked=("${!interpreters[@]}")
+    [ ${#asked[@]} -gt 0 ] || finish
+fi
+
 # Interpreters work side by side, and the newest by ctypes too. All but the newest try fewer random texts, unless a number is given.
-for version in "${!interpreters[@]}"; do
+for version in "${asked[@]}"; do
     way=$extension
     [ "${version#*.}" -ge 10 ] || way=no
     few=${FOWLYORE_RANDOM-1000}
     [ "$version" != "$newest" ] || few=${FOWLYORE_RANDOM-}
     run_tests "$version" "${interpreters[$version]}" "$way" "$few" &
 done
-runs=("${!interpreters[@]}")
-if [ "$extension" != no ]; then
+runs=("${asked[@]}")
+if [ "$extension" != no ] && [ -z "$older" ]; then
     runs+=("$newest by ctypes")
     run_tests "$newest by ctypes" "${interpreters[$newest]}" no "${FOWLYORE_RANDOM-1000}" &
 fi
@@ -85,12 +110,11 @@ done
 # packaging 26.2, which the tests compare with.
 [ "${FOWLYORE_PACKAGING-}" ] ||
     echo "not tried: packaging 26.2, of which FOWLYORE_PACKAGING names no folder (pip install -t DIR packaging==26.2)"
-for minor in {8..13}; do
-    [ "${interpreters[3.$minor]-}" ] || echo "not tried: the tests by Python 3.$minor, which is not there (pyenv install 3.$minor)"
-done
 
 # The types of the package, which its users' checks rest on.
-if ! command -v mypy >/dev/null; then
+if [ "$older" ]; then
+    :
+elif ! command -v mypy >/dev/null; then
     echo "not tried: the types, by mypy, which is not on the PATH (Debian's package mypy, or pip install mypy)"
 elif (cd "$top/python" && mypy --strict --cache-dir "$work/types" fowlyore) >"$work/said" 2>&1; then
     passed=$((passed + 1))
@@ -113,7 +137,7 @@ if ! wheel=$(REQS_LIBRARY=$library "$top/pack" wheel "$work") || [ ! -f "$wheel"
     fail "the wheel was not made"
     finish
 fi
-for version in "${!interpreters[@]}"; do
+for version in "${asked[@]}"; do
     if ! "${interpreters[$version]}" -m pip --version 2>/dev/null | grep -qE '^pip (2[3-9]|[3-9][0-9])'; then
         echo "not tried: the wheel by Python $version, whose pip is older than 23 or missing (pip install --upgrade pip)"
     elif try_wheel "$version" "${interpreters[$version]}"; then
@@ -122,6 +146,8 @@ for version in "${!interpreters[@]}"; do
         fail "the wheel by Python $version, installed into an environment of its own"
     fi
 done
+
+[ -z "$older" ] || finish
 
 # Packaging's tests over this package.
 suite=$top/out/packaging_suite
