@@ -5,3 +5,4 @@ pub mod Keeping
 pub mod Marking
 pub mod SetTrees
 mod Gaps
+pub mod Last

@@ -124,7 +124,7 @@ marked_kept old new trees m x all rooted marked =
           ∙ marked.marks v ∙ sym (marks_kept old new x trees all v);
     }
 
-all_made : (old new : List NodeRecord) → Extends old new → (trees : List Tree) → AllByRecursion (IsTree old) trees →
+pub all_made : (old new : List NodeRecord) → Extends old new → (trees : List Tree) → AllByRecursion (IsTree old) trees →
     AllByRecursion (IsTree new) trees
 all_made old new x [] all = tt
 all_made old new x (t ∷ trees) all = (tree_kept old new x t all.0, all_made old new x trees all.1)

@@ -34,11 +34,11 @@ pub(crate) fn markers(alloc: Global, lines: &[Given]) -> Result<Vec<MarkerTree>,
 pub(crate) fn cases_of(
     alloc: Global,
     lines: &[Given],
-    sets: Vec<TreeCase>,
+    sets: &[TreeCase],
 ) -> Result<Vec<Case>, AllocError>
-    requires { AllByRecursion (HaveMarks (length lines.now)) (cases_seen sets.items) }
+    requires { AllByRecursion (HaveMarks (length lines.now)) (cases_seen sets.now) }
     ensures { IfOk result (λ cases.
-        AllZip (IsCaseOfGiven lines.now) (map case_record cases.items) (cases_seen sets.items)) }
+        AllZip (IsCaseOfGiven lines.now) (map case_record cases.items) (cases_seen sets.now)) }
 {
     let mut cases = Vec::with_capacity(alloc, sets.len())?;
     for set in sets {
@@ -48,9 +48,9 @@ pub(crate) fn cases_of(
 }
 
 #[tactic(auto, using(crate::proofs::Ranging::any_named))]
-fn case_of(alloc: Global, lines: &[Given], set: TreeCase) -> Result<Case, AllocError>
-    requires { HaveMarks (length lines.now) (case_seen set) }
-    ensures { IfOk result (λ case. IsCaseOfGiven lines.now (case_record case) (case_seen set)) }
+fn case_of(alloc: Global, lines: &[Given], set: &TreeCase) -> Result<Case, AllocError>
+    requires { HaveMarks (length lines.now) (case_seen set.now) }
+    ensures { IfOk result (λ case. IsCaseOfGiven lines.now (case_record case) (case_seen set.now)) }
 {
     let own = marked_lines(alloc, &set.set, lines)?;
     let range = range_of(alloc, &own)?;

@@ -12,6 +12,7 @@ ghost use Rattle.std.specs.List.{AllZip, AllByRecursion};
 ghost use Rattle.std.specs.Option.{option_map};
 ghost use Rattle.pep508_url.specs.Vars.{Variables};
 ghost use Rattle.pep508_tree.specs.Meaning.{Extends};
+ghost use Rattle.pep508_cases.specs.Last.{IsLast};
 ghost use Rattle.reqtable_requirements.specs.Asks.{AreOfNodes};
 ghost use Rattle.reqtable_requirements.specs.LineReading.{LineRecord};
 ghost use Rattle.reqtable_requirements.specs.Requirements.{StandsFor};
@@ -28,7 +29,7 @@ use crate::casing::{cases_of, markers};
 use crate::kept::{TableLine, kept_lines};
 use pep440_specifier::laws::a_read_specifier_is_built;
 use pep440_version::Version;
-use pep508_cases::{CasesError, tree_cases};
+use pep508_cases::{CasesError, LastCases};
 use pep508_name::PackageName;
 use pep508_tree::{Interner, MarkerTree};
 use reqtable_groups::{Group, grouped};
@@ -129,10 +130,11 @@ impl Model for Table {
 impl Table {
     /// The table of a text's requirements, whose markers are trees of the interner.
     ///
-    /// The cases of each package are found line by line, so that no more sets are examined than `limit`
-    /// allows: n lines of a package need at most `2 * n * limit` conjunctions. In addition the lines are
-    /// sorted by name, and the range of each case of n specifiers needs O(n log n) comparisons of versions.
-    /// The table keeps what it needs of the requirements, without a second copy.
+    /// The cases of each package are found by one diagram of its lines' markers (`tree_cases`), or are those
+    /// of the package before it by name where its lines have the same markers in the same order. n lines of a
+    /// package need at most `2 * n * limit` conjunctions. In addition the lines are sorted by name, and the
+    /// range of each case of n specifiers needs O(n log n) comparisons of versions. The table keeps what it
+    /// needs of the requirements, without a second copy.
     ///
     /// # Errors
     ///
@@ -233,8 +235,9 @@ fn packages_of(
         ≤ interner.old.conjunctions + 2 * (length (lines_in groups.items) * limit) }
 {
     let mut packages = Vec::with_capacity(alloc, groups.len())?;
+    let mut last = LastCases::new(alloc);
     for group in groups {
-        match package_of(alloc, interner, group, limit, slots) {
+        match package_of(alloc, interner, group, limit, slots, &mut last) {
             Ok(package) => packages.push(package)?,
             Err(error) => return Err(error),
         }
@@ -249,22 +252,25 @@ fn package_of(
     group: Group,
     limit: u64,
     slots: &mut Slots,
+    last: &mut LastCases,
 ) -> Result<Package, TableError>
-    requires { AreOfTrees interner.old.nodes group }
+    requires trees { AreOfTrees interner.old.nodes group }
+    requires last { IsLast interner.old.nodes last.old }
     ensures made { IfOk result (λ made. IsPackageOf limit interner.new.nodes group (package_record made)) }
     ensures refused { IfErr result (IsRefusal limit interner.old.nodes group) }
+    ensures last { IsLast interner.new.nodes last.new }
     ensures keeps { Extends interner.old.nodes interner.new.nodes }
     ensures counts { interner.new.conjunctions
         ≤ interner.old.conjunctions + 2 * (length group.lines.items * limit) }
 {
     let Group { name, lines } = group;
     let trees = markers(alloc, &lines)?;
-    let sets = match tree_cases(alloc, interner, &trees, limit) {
-        Ok(sets) => sets,
+    match last.find(alloc, interner, trees, limit) {
+        Ok(()) => (),
         Err(CasesError::TooMany) => return Err(TableError::TooManyCases { package: name }),
         Err(CasesError::Memory) => return Err(TableError::Memory),
-    };
-    let cases = cases_of(alloc, &lines, sets)?;
+    }
+    let cases = cases_of(alloc, &lines, last.cases())?;
     let lines = kept_lines(alloc, lines, slots)?;
     Ok(Package { name, cases, lines })
 }

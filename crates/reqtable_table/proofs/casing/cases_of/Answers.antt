@@ -1,27 +1,24 @@
-use Rattle.std.proofs.Common.{◌≡◌, ◌∙◌, ◌++◌, ◌∷◌, [], map, length, sym, ap, subst, append_assoc, rules}
-use Rattle.std.proofs.lemmas.List.{map-append}
-use Rattle.std.specs.List.{AllByRecursion}
-use Rattle.std.specs.Vec.Iter.{into_iter_items}
+use Rattle.std.proofs.Common.{◌≡◌, ◌∙◌, ◌++◌, ◌∷◌, ◌+◌, [], map, take, length, ap, sym}
+use Rattle.std.proofs.lemmas.List.{map-append, take_more}
 use Rattle.pep508_cases.specs.Seen.{case_seen, cases_seen}
 use Rattle.reqtable_table.specs.Casing.{case_record, HaveMarks, IsCaseOfGiven}
+use Rattle.reqtable_table.proofs.Finding.{all_at}
 use Rattle.reqtable_table.proofs.Packages.{zip_pushed}
 use Rattle.reqtable_table.proofs.casing.cases_of.Goals as goal
 
+pub case_of-requires : goal.case_of-requires
+case_of-requires c =
+    all_at (HaveMarks (length c.args.lines.now)) case_seen c.args.sets.now c.loop-set.set-index c.set-item.result
+    c.loop-set-test.true c.set-item.is c.requires
+
 pub loop-set-preserved : goal.loop-set-preserved
 loop-set-preserved c =
-    let done = c.loop-set.yielded in
-    let set = c.in-Some.set in
-    let lines = c.args.lines.now in
-    let rest = into_iter_items c.next.new.self in
-    let taken : into_iter_items c.loop-set.set-iterator ≡ set ∷ rest = search rules in
-    let left : AllByRecursion (HaveMarks (length lines)) (cases_seen (set ∷ rest)) =
-    subst (λ sets. AllByRecursion (HaveMarks (length lines)) (cases_seen sets)) taken c.loop-set.invariant.left in
-    record {
-      split = append_assoc done (set ∷ []) rest ∙ ap (λ l. done ++ l) (sym taken) ∙ c.loop-set.invariant.split;
-      left = left.1;
-      made =
-          zip_pushed (IsCaseOfGiven lines) (map case_record c.loop-set.cases.items) (map case_record c.push.new.self.items) (cases_seen done)
-          (cases_seen (done ++ set ∷ [])) (case_record c.in_ok-case_of.field-0) (case_seen set)
-          (ap (map case_record) c.in_ok-push.ensures.items ∙ map-append case_record c.loop-set.cases.items _)
-          (map-append case_seen done (set ∷ [])) c.loop-set.invariant.made c.in_ok-case_of.ensures;
-    }
+    let sets = c.args.sets.now in
+    let i = c.loop-set.set-index in
+    let set = c.set-item.result in
+    let next : take (i + 1) sets ≡ take i sets ++ set ∷ [] =
+    take_more sets i set c.loop-set-test.true ∙ ap (λ s. take i sets ++ s ∷ []) (sym c.set-item.is) in
+    zip_pushed (IsCaseOfGiven c.args.lines.now) (map case_record c.loop-set.cases.items) (map case_record c.push.new.self.items)
+    (cases_seen (take i sets)) (cases_seen (take (i + 1) sets)) (case_record c.in_ok-case_of.field-0) (case_seen set)
+    (ap (map case_record) c.in_ok-push.ensures.items ∙ map-append case_record c.loop-set.cases.items _)
+    (ap cases_seen next ∙ map-append case_seen (take i sets) (set ∷ [])) c.loop-set.invariant c.in_ok-case_of.ensures

@@ -11,8 +11,8 @@ use Rattle.reqtable_table.proofs.Firsts.{of_trees_on, packages_on, pushed_all, m
 use Rattle.reqtable_table.proofs.Firsts.{first_refused}
 use Rattle.reqtable_table.proofs.table.packages_of.Goals as goal
 
-pub package_of-requires : goal.package_of-requires
-package_of-requires c =
+pub package_of-requires-clause-trees : goal.package_of-requires-clause-trees
+package_of-requires-clause-trees c =
     let start = c.args.interner.now.nodes in
     let now = c.loop-group.interner.nodes in
     let group = c.in-Some.group in
@@ -48,6 +48,7 @@ loop-group-preserved c =
           (ap (map package_record) c.in_ok-push-in-Ok.ensures.items ∙ map-append package_record c.loop-group.packages.items _)
           (packages_on limit now new done old_table c.in-Ok.ensures.keeps before.made)
           c.in-Ok.ensures.made;
+      last = c.in-Ok.ensures.last;
     }
 
 pub returns-in_err-push-in-Ok-clause-counts : goal.returns-in_err-push-in-Ok-clause-counts

@@ -2,6 +2,7 @@ use Rattle.std.proofs.Common.{◌≡◌, ◌≤◌, ◌+◌, ◌*◌, ◌++◌, 
 use Rattle.std.specs.List.{AllZip, AllByRecursion}
 use Rattle.std.specs.Vec.Iter.{into_iter_items}
 use Rattle.pep508_tree.specs.Meaning.{Extends}
+use Rattle.pep508_cases.specs.Last.{IsLast}
 use Rattle.reqtable_groups.specs.Given.{lines_in}
 use Rattle.reqtable_table.specs.KeptLines.{package_record}
 use Rattle.reqtable_table.specs.Building.{AreOfTrees, IsPackageOf}
@@ -15,4 +16,5 @@ invariant-loop-group l = record {
   done : AllByRecursion (AreOfTrees l.fn.interner.nodes) l.yielded;
   left : AllByRecursion (AreOfTrees l.fn.interner.nodes) (into_iter_items l.group-iterator);
   made : AllZip (IsPackageOf l.limit l.interner.nodes) l.yielded (map package_record l.packages.items);
+  last : IsLast l.interner.nodes l.last;
 }
