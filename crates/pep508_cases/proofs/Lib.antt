@@ -5,3 +5,5 @@ pub mod Keeping
 pub mod Marking
 pub mod SetTrees
 mod Gaps
+pub mod Listing
+mod Meet
