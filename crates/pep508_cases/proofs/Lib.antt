@@ -6,3 +6,5 @@ pub mod Marking
 pub mod SetTrees
 mod Gaps
 pub mod Last
+pub mod Listing
+mod Meet

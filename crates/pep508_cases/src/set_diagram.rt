@@ -145,7 +145,7 @@ fn joined(
 }
 
 /// Returns the sets of some trees, joined by halves, or `None` where there are more than `most`.
-fn of_trees(
+pub(crate) fn of_trees(
     alloc: Global,
     interner: &Interner,
     trees: &[MarkerTree],

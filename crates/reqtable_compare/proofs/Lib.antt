@@ -14,6 +14,7 @@ pub mod Whole
 pub mod Kept
 pub mod Answering
 pub mod Apart
+pub mod Listed
 pub mod Covered
 pub mod Meant
 pub mod Outside

@@ -1,5 +1,5 @@
 -- Pairs of cases of two sides.
-use Rattle.std.specs.Prelude.{◌≡◌, ◌⊎◌, Bool, true, false, List, [], ◌∷◌, ◌++◌, Option, Some, None}
+use Rattle.std.specs.Prelude.{◌≡◌, ◌⊎◌, Bool, true, false, List, [], ◌∷◌, ◌++◌, Option, Some, None, map}
 use Rattle.std.specs.List.{AllByRecursion}
 use Rattle.pep508_tree.specs.Tree.{Tree}
 use Rattle.pep508_tree.specs.Meaning.{NodeRecord, IsTree}
@@ -16,6 +16,10 @@ PassesAll nodes right a = AllByRecursion (Passes nodes a) right
 
 abbrev pub AreOfTrees : List NodeRecord → List SummaryRecord → Type 0
 AreOfTrees nodes summaries = AllByRecursion (λ s. IsTree nodes s.tree) summaries
+
+-- the trees of some cases
+abbrev pub case_trees : List SummaryRecord → List Tree
+case_trees = map (λ s. s.tree)
 
 -- no two cases hold together
 abbrev pub AreApart : List NodeRecord → List SummaryRecord → Type 0

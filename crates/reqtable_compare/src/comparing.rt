@@ -69,8 +69,10 @@ struct Place {
 /// names, and a package with k and m of them at most 2 * k * m comparisons of lines.
 ///
 /// From the lines of all other packages tables are built, from a copy, as by `Table::build`: so cases are
-/// counted in either list. A package with k and m cases needs at most k * m comparisons of what two cases
-/// require, and k if each of its cases is in both lists and requires the same there.
+/// counted in either list. A package with k and m cases needs k comparisons of what two cases require if each
+/// of its cases is in both lists and requires the same there. If many are not, it needs one for each pair of
+/// cases that hold together, and the time of one diagram of the cases of both lists; if few are not, or if
+/// more than 16 * (k + m) pairs hold together, at most k * m comparisons.
 ///
 /// # Errors
 ///

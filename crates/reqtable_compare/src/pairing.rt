@@ -1,15 +1,19 @@
 //! The first pair of cases that hold together and require different things.
 //!
-//! Two cases are compared by what they require, and only if that differs are they tested for holding
-//! together, which makes no tree; a conjunction is made of the one pair that is reported.
+//! A case whose tree is also a case's on the other side, which requires the same, needs no other comparison.
+//! If there are few others, each is compared with all cases on the other side. If there are many, one diagram
+//! of both sides' cases tells which pairs hold together, and only those are compared; but where very many do,
+//! all are compared, so that no long list is kept. A conjunction is made of the one pair that is reported.
 
-ghost use Rattle.std.specs.Prelude.{map, List, IfOk, IsTrue};
+ghost use Rattle.std.specs.Prelude.{map, List, IfOk, IfSome, IsTrue};
 ghost use Rattle.pep508_tree.specs.Meaning.{IsTree, NodeRecord};
+ghost use Rattle.pep508_cases.specs.Pairs.{AreMeeting};
 ghost use Rattle.reqtable_compare.specs.Seen.{summary_record};
 ghost use Rattle.reqtable_compare.specs.Pairs.{Decides, FindsOther, FindsTrees, AreOfTrees, AreApart};
-ghost use Rattle.reqtable_compare.specs.Pairs.{PassesAll, ArePartners};
+ghost use Rattle.reqtable_compare.specs.Pairs.{PassesAll, ArePartners, case_trees};
 
 use crate::summary::Summary;
+use pep508_cases::meeting_pairs;
 use pep508_disjointness::MarkerTreeDisjointness;
 use pep508_tree::{Interner, MarkerTree};
 use std::alloc::{AllocError, Global};
@@ -17,6 +21,12 @@ use std::collections::HashMap;
 
 /// Up to this many cases a linear scan beats a map lookup.
 const FEW: usize = 4;
+
+/// Up to this many comparisons of cases take less time than a diagram.
+const MANY: usize = 65_536;
+
+/// At most so many pairs are listed, for each case of both sides.
+const LISTED: u64 = 16;
 
 /// The indices of one side's cases, by their trees.
 type Places = HashMap<MarkerTree, usize>;
@@ -33,8 +43,10 @@ pub(crate) struct Meeting {
 ///
 /// A case whose tree is also a case's on the other side, which requires the same, is compared with no other,
 /// since those never hold together with it: so sides that are equal need as many comparisons as they have
-/// cases. Otherwise k and m cases need at most k * m comparisons, and one check whether two trees are
-/// disjoint for each pair that requires different things.
+/// cases. If there are many other cases, one comparison is needed for each pair of cases that hold together,
+/// and the time of the diagram of all cases. If there are few, or very many such pairs, k and m cases need at
+/// most k * m comparisons, and one check whether two trees are disjoint for each pair that requires different
+/// things.
 pub(crate) fn first_trees(
     alloc: Global,
     interner: &Interner,
@@ -48,15 +60,12 @@ pub(crate) fn first_trees(
         (map summary_record right.now)) }
 {
     let places = places_of(alloc, right)?;
-    for one in left {
-        if let Some(other) = first_other(alloc, interner, one, right, &places)? {
-            return Ok(Some(Meeting {
-                one: one.tree,
-                other,
-            }));
+    if are_many(left, right, &places) {
+        if let Some(pairs) = listed_pairs(alloc, interner, left, right)? {
+            return first_listed(alloc, interner, left, right, &pairs);
         }
     }
-    Ok(None)
+    first_of_all(alloc, interner, left, right, &places)
 }
 
 /// The index of each case by its tree, or nothing if there are only a few cases.
@@ -69,6 +78,17 @@ fn places_of(alloc: Global, right: &[Summary<'_>]) -> Result<Places, AllocError>
         places.insert(other.tree, place)?;
     }
     Ok(places)
+}
+
+/// Whether the cases that have no partner need many comparisons.
+fn are_many(left: &[Summary<'_>], right: &[Summary<'_>], places: &Places) -> bool {
+    let mut others: usize = 0;
+    for one in left {
+        if !has_partner(places, one, right) {
+            others = others.saturating_add(1);
+        }
+    }
+    others.saturating_mul(right.len()) > MANY
 }
 
 /// Whether a case of the other side has the same tree and requires the same.
@@ -87,6 +107,94 @@ fn is_partner(one: &Summary<'_>, other: &Summary<'_>) -> bool
     ensures { IsTrue result → ArePartners (summary_record one.now) (summary_record other.now) }
 {
     one.tree == other.tree && one.is_alike(other)
+}
+
+/// The pairs of cases that may hold together, by their indices. `None` if there are very many such pairs.
+fn listed_pairs(
+    alloc: Global,
+    interner: &Interner,
+    left: &[Summary<'_>],
+    right: &[Summary<'_>],
+) -> Result<Option<Vec<(usize, usize)>>, AllocError>
+    requires left { AreOfTrees interner.now.nodes (map summary_record left.now) }
+    requires right { AreOfTrees interner.now.nodes (map summary_record right.now) }
+    ensures { IfOk result (λ pairs. IfSome pairs (λ pairs. AreMeeting interner.now.nodes
+        (case_trees (map summary_record left.now)) (case_trees (map summary_record right.now)) pairs.items)) }
+{
+    let cases = (left.len() as u64).saturating_add(right.len() as u64);
+    let ours = trees_of(alloc, left)?;
+    let theirs = trees_of(alloc, right)?;
+    meeting_pairs(
+        alloc,
+        interner,
+        &ours,
+        &theirs,
+        cases.saturating_mul(LISTED),
+    )
+}
+
+/// The trees of some cases.
+fn trees_of(alloc: Global, cases: &[Summary<'_>]) -> Result<Vec<MarkerTree>, AllocError>
+    ensures { IfOk result (λ trees. trees.items ≡ case_trees (map summary_record cases.now)) }
+{
+    let mut trees = Vec::with_capacity(alloc, cases.len())?;
+    for case in cases {
+        trees.push(case.tree)?;
+    }
+    Ok(trees)
+}
+
+/// The trees of the first of some pairs that holds together and requires different things.
+fn first_listed(
+    alloc: Global,
+    interner: &Interner,
+    left: &[Summary<'_>],
+    right: &[Summary<'_>],
+    pairs: &[(usize, usize)],
+) -> Result<Option<Meeting>, AllocError>
+    requires left { AreOfTrees interner.now.nodes (map summary_record left.now) }
+    requires right { AreOfTrees interner.now.nodes (map summary_record right.now) }
+    requires pairs { AreMeeting interner.now.nodes
+        (case_trees (map summary_record left.now)) (case_trees (map summary_record right.now)) pairs.now }
+    ensures { IfOk result (FindsTrees interner.now.nodes (map summary_record left.now)
+        (map summary_record right.now)) }
+{
+    for pair in pairs {
+        let ours = &left[pair.0];
+        let theirs = &right[pair.1];
+        if !passes(alloc, interner, ours, theirs)? {
+            return Ok(Some(Meeting {
+                one: ours.tree,
+                other: theirs.tree,
+            }));
+        }
+    }
+    Ok(None)
+}
+
+/// The trees of the first of all pairs that holds together and requires different things.
+fn first_of_all(
+    alloc: Global,
+    interner: &Interner,
+    left: &[Summary<'_>],
+    right: &[Summary<'_>],
+    places: &Places,
+) -> Result<Option<Meeting>, AllocError>
+    requires left { AreOfTrees interner.now.nodes (map summary_record left.now) }
+    requires right { AreOfTrees interner.now.nodes (map summary_record right.now) }
+    requires apart { AreApart interner.now.nodes (map summary_record right.now) }
+    ensures { IfOk result (FindsTrees interner.now.nodes (map summary_record left.now)
+        (map summary_record right.now)) }
+{
+    for one in left {
+        if let Some(other) = first_other(alloc, interner, one, right, places)? {
+            return Ok(Some(Meeting {
+                one: one.tree,
+                other,
+            }));
+        }
+    }
+    Ok(None)
 }
 
 /// The tree of the first case on the right that holds together with `one` and requires something else.

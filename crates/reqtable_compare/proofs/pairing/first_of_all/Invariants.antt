@@ -2,7 +2,7 @@ use Rattle.std.proofs.Common.{map, take}
 use Rattle.std.specs.List.{AllByRecursion}
 use Rattle.reqtable_compare.specs.Seen.{summary_record}
 use Rattle.reqtable_compare.specs.Pairs.{PassesAll}
-use Rattle.reqtable_compare.proofs.pairing.first_trees.Given as goal
+use Rattle.reqtable_compare.proofs.pairing.first_of_all.Given as goal
 
 abbrev pub invariant-loop-one : goal.invariant-loop-one
 invariant-loop-one l =

@@ -3,7 +3,7 @@ use Rattle.pep508_tree.specs.Meaning.{IsTree}
 use Rattle.reqtable_compare.specs.Seen.{summary_record}
 use Rattle.reqtable_compare.specs.Pairs.{FindsOther}
 use Rattle.reqtable_compare.proofs.Steps.{all_at, split_at}
-use Rattle.reqtable_compare.proofs.pairing.first_trees.Goals as goal
+use Rattle.reqtable_compare.proofs.pairing.first_of_all.Goals as goal
 
 pub first_other-requires-clause-one : goal.first_other-requires-clause-one
 first_other-requires-clause-one c =
