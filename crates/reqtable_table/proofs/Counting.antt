@@ -13,7 +13,7 @@ use Rattle.reqtable_table.specs.Counts.{up_to_64_bits, tests_of, all_tests, tabl
 capped : (a b m : ℕ) → min (min a m + b) m ≡ min (a + b) m
 capped a b m = omega arith
 
-tests_joined : (lines others : List KeptLine) → tests_of (lines ++ others) ≡ tests_of lines + tests_of others
+pub tests_joined : (lines others : List KeptLine) → tests_of (lines ++ others) ≡ tests_of lines + tests_of others
 tests_joined [] others = omega arith
 tests_joined (line ∷ lines) others =
     let rest = tests_joined lines others in

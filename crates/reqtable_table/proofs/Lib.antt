@@ -10,6 +10,7 @@ pub mod Lookup
 pub mod RowsOfLines
 pub mod AskedLines
 pub mod MarkedAsks
+pub mod AskedParts
 pub mod Telling
 pub mod Finding
 pub mod KeptFlags

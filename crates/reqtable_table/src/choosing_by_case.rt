@@ -1,6 +1,7 @@
 //! Which of a package's candidates is selected, by its active case.
 
-ghost use Rattle.std.specs.Prelude.{◌≡◌, ◌≤◌, ◌<◌, ◌+◌, ℕ, Bool, length, map, find, IfOk, IfSome};
+ghost use Rattle.std.specs.Prelude.{◌≡◌, ◌≤◌, ◌<◌, ◌+◌, ℕ, Bool, length, map, find, is_none, IfOk};
+ghost use Rattle.std.specs.Prelude.{IfSome};
 ghost use Rattle.std.specs.List.{list_any, list_all, AllZip, AllByRecursion};
 ghost use Rattle.std.specs.Option.{option_map};
 ghost use Rattle.pep440_range.specs.Agreement.{IsSaid};
@@ -28,7 +29,8 @@ use version_ranges::Ranges;
 
 /// The place in the candidate list of the first candidate that all marked lines accept and that is admitted,
 /// found as `Table::answer_among` says. A candidate that the range doesn't decide is tested against each
-/// specifier of the marked lines, up to the first that rejects it.
+/// specifier of the marked lines, up to the first that rejects it: from the line that rejected the last such
+/// candidate on, and then of those before it.
 pub(crate) fn chosen<F: Fn(&Version, bool) -> bool>(
     alloc: Global,
     lines: &mut [TableLine],
@@ -53,11 +55,20 @@ pub(crate) fn chosen<F: Fn(&Version, bool) -> bool>(
         + most_tests (case_asks marks.now (map line_record lines.old)) (map placed_seen own.now) }
 {
     let bounded = any_marked(lines, marks, |line: &TableLine| line.is_bounded);
+    let mut first = 0;
     let mut at = 0;
     while at < own.len() {
         let placed = own.at(at);
         let version = &placed.candidate.version;
-        match takes(alloc, lines, marks, &case.range, bounded, version) {
+        match takes(
+            alloc,
+            lines,
+            marks,
+            &case.range,
+            bounded,
+            version,
+            &mut first,
+        ) {
             Ok(taken) => {
                 if taken && admission.admits(version, case.pre) {
                     return Ok(Some(placed.place));
@@ -89,7 +100,8 @@ pub(crate) fn any_marked<F: Fn(&TableLine) -> bool>(
     false
 }
 
-/// Whether all marked lines accept the version: decided by their range, where that decides it.
+/// Whether all marked lines accept the version: decided by their range, where that decides it, and else by
+/// `takes_all`.
 fn takes(
     alloc: Global,
     lines: &mut [TableLine],
@@ -97,6 +109,7 @@ fn takes(
     range: &Option<Ranges<Version>>,
     bounded: bool,
     version: &Version,
+    first: &mut usize,
 ) -> Result<bool, AllocError>
     requires marks { length marks.now ≡ length lines.old }
     requires tells { Tells bounded range.now (case_asks marks.now (map line_record lines.old)) }
@@ -111,15 +124,17 @@ fn takes(
             return Ok(set.contains(version));
         }
     }
-    takes_all(alloc, lines, marks, version)
+    takes_all(alloc, lines, marks, version, first)
 }
 
-/// Whether all marked lines accept the version: each is tested, up to the first that rejects it.
+/// Whether all marked lines accept the version: each is tested, from the one at `first` on, and then those
+/// before it, up to the first that rejects the version. `first` is then the place of that line.
 fn takes_all(
     alloc: Global,
     lines: &mut [TableLine],
     marks: &[bool],
     version: &Version,
+    first: &mut usize,
 ) -> Result<bool, AllocError>
     requires { length marks.now ≡ length lines.old }
     ensures answer { IfOk result (λ taken. taken ≡
@@ -127,16 +142,51 @@ fn takes_all(
     ensures more { AskedMore (length (members_asked (case_asks marks.now (map line_record lines.old))))
         (map line_record lines.new) (map line_record lines.old) }
 {
+    let at = lines.len().min(*first);
+    let (front, back) = lines.split_at_mut(at);
+    let (front_marks, back_marks) = marks.split_at(at);
+    match first_rejecting(alloc, back, back_marks, version) {
+        Ok(Some(place)) => {
+            *first = at + place;
+            return Ok(false);
+        }
+        Ok(None) => {}
+        Err(error) => return Err(error),
+    }
+    match first_rejecting(alloc, front, front_marks, version) {
+        Ok(Some(place)) => {
+            *first = place;
+            Ok(false)
+        }
+        Ok(None) => Ok(true),
+        Err(error) => Err(error),
+    }
+}
+
+/// The place of the first marked line that rejects the version, if one does. None after it is tested.
+fn first_rejecting(
+    alloc: Global,
+    lines: &mut [TableLine],
+    marks: &[bool],
+    version: &Version,
+) -> Result<Option<usize>, AllocError>
+    requires { length marks.now ≡ length lines.old }
+    ensures answer { IfOk result (λ found. is_none found ≡
+        list_all (ask_takes version.now) (case_asks marks.now (map line_record lines.old))) }
+    ensures within { IfOk result (λ found. IfSome found (λ place. place < length lines.old)) }
+    ensures more { AskedMore (length (members_asked (case_asks marks.now (map line_record lines.old))))
+        (map line_record lines.new) (map line_record lines.old) }
+{
     for (index, line) in lines.iter_mut().enumerate() {
         if marks[index] {
             match ask(alloc, line, version) {
                 Ok(true) => {}
-                Ok(false) => return Ok(false),
+                Ok(false) => return Ok(Some(index)),
                 Err(error) => return Err(error),
             }
         }
     }
-    Ok(true)
+    Ok(None)
 }
 
 /// Whether a line accepts the version. A URL accepts any.

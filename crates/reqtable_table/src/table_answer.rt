@@ -86,7 +86,8 @@ impl Table {
     /// them that lie between two of its intervals are skipped together, in as many steps as the logarithms of
     /// the number of intervals and of the package's candidates; each one inside an interval is admitted or
     /// not. The specifiers are tested for all other candidates, or for all candidates if the case has no
-    /// range.
+    /// range: line by line, up to the first line that rejects the candidate, beginning with the one that
+    /// rejected the last candidate tested.
     ///
     /// # Errors
     ///

@@ -1,61 +1,51 @@
-use Rattle.std.proofs.Common.{◌∙◌, ◌+◌, get_or, sym, ap, subst}
-use Rattle.std.proofs.lemmas.List.{set-get_or}
-use Rattle.reqtable_table.proofs.MarkedAsks.{AreAsked, none_asked, not_asked, is_asked, more_at_end, refused}
-use Rattle.reqtable_table.proofs.MarkedAsks.{all_taken, all_more}
+use Rattle.std.proofs.Common.{◌∙◌, true, false, sym, ap, is_none}
+use Rattle.reqtable_table.proofs.AskedParts.{both_asked, back_asked, back_refuses, both_answer}
 use Rattle.reqtable_table.proofs.choosing_by_case.takes_all.Goals as goal
-use Rattle.reqtable_table.proofs.choosing_by_case.takes_all.Goals.{then-marks-index+in-Ok-true, else-marks-index}
 
-pub loop-index-init : goal.loop-index-init
-loop-index-init c = none_asked c.args.version.now c.args.marks.now c.args.lines.now
+pub returns-in-Ok-Some-clause-answer : goal.returns-in-Ok-Some-clause-answer
+returns-in-Ok-Some-clause-answer c =
+    back_refuses _ _ _ _ _ _ c.split_at.ensures.by_index.0 c.split_at_mut-front.ensures.value
+    (c.split_at.ensures.front_len ∙ sym c.split_at_mut-front.ensures.front_len) c.args.version.now
+    (sym (ap is_none c.in-Ok-Some.field-0-is) ∙ c.in-Ok-Some.ensures.answer)
 
-pub returns-in-Ok-false-clause-answer : goal.returns-in-Ok-false-clause-answer
-returns-in-Ok-false-clause-answer c =
-    sym (refused c.args.version.now c.args.marks.now c.args.lines.now c.loop-index.lines c.loop-index.index
-    (get_or c.loop-index.lines c.loop-index.index c.index-lines-index.result) c.requires c.loop-index-test.true
-    (ap (get_or c.loop-index.lines c.loop-index.index) c.index-lines-index.is) c.loop-index.invariant
-    (sym c.if-marks-index.true) (sym c.in-Ok-false.ensures.answer ∙ c.in-Ok-false.field-0-test))
-
-pub returns-in-Ok-false-clause-more : goal.returns-in-Ok-false-clause-more
-returns-in-Ok-false-clause-more c =
-    more_at_end c.args.version.now c.args.marks.now c.args.lines.now c.loop-index.lines c.loop-index.index
-    (get_or c.loop-index.lines c.loop-index.index c.index-lines-index.result) c.requires c.loop-index-test.true
-    (ap (get_or c.loop-index.lines c.loop-index.index) c.index-lines-index.is) c.loop-index.invariant
-    c.ask.new.line (sym c.if-marks-index.true) c.ask.ensures.same c.ask.ensures.tests
+pub returns-in-Ok-Some-clause-more : goal.returns-in-Ok-Some-clause-more
+returns-in-Ok-Some-clause-more c =
+    back_asked _ _ _ _ _ _ c.split_at.ensures.by_index.0 c.split_at_mut-front.ensures.value
+    (c.split_at.ensures.front_len ∙ sym c.split_at_mut-front.ensures.front_len) c.first_rejecting.new.lines c.first_rejecting.ensures.more
 
 pub returns-in-Err-clause-more : goal.returns-in-Err-clause-more
 returns-in-Err-clause-more c =
-    more_at_end c.args.version.now c.args.marks.now c.args.lines.now c.loop-index.lines c.loop-index.index
-    (get_or c.loop-index.lines c.loop-index.index c.index-lines-index.result) c.requires c.loop-index-test.true
-    (ap (get_or c.loop-index.lines c.loop-index.index) c.index-lines-index.is) c.loop-index.invariant
-    c.ask.new.line (sym c.if-marks-index.true) c.ask.ensures.same c.ask.ensures.tests
+    back_asked _ _ _ _ _ _ c.split_at.ensures.by_index.0 c.split_at_mut-front.ensures.value
+    (c.split_at.ensures.front_len ∙ sym c.split_at_mut-front.ensures.front_len) c.first_rejecting.new.lines c.first_rejecting.ensures.more
 
-pub loop-index-preserved : goal.loop-index-preserved
-loop-index-preserved c =
-    let version = c.args.version.now in
-    let marks = c.args.marks.now in
-    let lines = c.args.lines.now in
-    let now = c.loop-index.lines in
-    let i = c.loop-index.index in
-    let line = get_or now i c.index-lines-index.result in
-    let is = ap (get_or now i) c.index-lines-index.is in
-    elim c.if-marks-index.branch [
-      | then-marks-index+in-Ok-true w ↦
-          subst (λ later. AreAsked version marks lines later (i + 1)) (sym w.lines-is)
-          (is_asked version marks lines now i line c.requires c.loop-index-test.true is c.loop-index.invariant
-          w.ask.new.line (sym w.if-marks-index.true) w.ask.ensures.same w.ask.ensures.tests
-          (sym w.in-Ok-true.ensures.answer ∙ w.in-Ok-true.field-0-test))
-      | else-marks-index w ↦
-          subst (λ later. AreAsked version marks lines later (i + 1)) (sym (w.lines-is ∙ set-get_or now i c.index-lines-index.result))
-          (not_asked version marks lines now i line c.requires c.loop-index-test.true is c.loop-index.invariant
-          (sym w.if-marks-index.false))
-    ]
+pub returns-in-Ok-Some-first_rejecting-clause-answer : goal.returns-in-Ok-Some-first_rejecting-clause-answer
+returns-in-Ok-Some-first_rejecting-clause-answer c =
+    both_answer _ _ _ _ _ _ c.split_at.ensures.by_index.0 c.split_at_mut-front.ensures.value
+    (c.split_at.ensures.front_len ∙ sym c.split_at_mut-front.ensures.front_len) c.args.version.now false
+    (sym (ap is_none c.in-Ok-Some-first_rejecting.field-0-is) ∙ c.in-Ok-Some-first_rejecting.ensures.answer)
+    (sym (ap is_none c.in-Ok-None.field-0-is) ∙ c.in-Ok-None.ensures.answer)
 
-pub returns-clause-answer : goal.returns-clause-answer
-returns-clause-answer c =
-    all_taken c.args.version.now c.args.marks.now c.args.lines.now c.loop-index.lines c.loop-index.index c.requires
-    c.loop-index-test.false c.loop-index.invariant
+pub returns-in-Ok-None-first_rejecting-clause-answer : goal.returns-in-Ok-None-first_rejecting-clause-answer
+returns-in-Ok-None-first_rejecting-clause-answer c =
+    both_answer _ _ _ _ _ _ c.split_at.ensures.by_index.0 c.split_at_mut-front.ensures.value
+    (c.split_at.ensures.front_len ∙ sym c.split_at_mut-front.ensures.front_len) c.args.version.now true
+    (sym (ap is_none c.in-Ok-None-first_rejecting.field-0-is) ∙ c.in-Ok-None-first_rejecting.ensures.answer)
+    (sym (ap is_none c.in-Ok-None.field-0-is) ∙ c.in-Ok-None.ensures.answer)
 
-pub returns-clause-more : goal.returns-clause-more
-returns-clause-more c =
-    all_more c.args.version.now c.args.marks.now c.args.lines.now c.loop-index.lines c.loop-index.index c.requires
-    c.loop-index-test.false c.loop-index.invariant
+pub returns-in-Ok-Some-first_rejecting-clause-more : goal.returns-in-Ok-Some-first_rejecting-clause-more
+returns-in-Ok-Some-first_rejecting-clause-more c =
+    both_asked _ _ _ _ _ _ c.split_at.ensures.by_index.0 c.split_at_mut-front.ensures.value
+    (c.split_at.ensures.front_len ∙ sym c.split_at_mut-front.ensures.front_len) c.first_rejecting-2.new.lines c.first_rejecting.new.lines
+    c.first_rejecting-2.ensures.more c.first_rejecting.ensures.more
+
+pub returns-in-Ok-None-first_rejecting-clause-more : goal.returns-in-Ok-None-first_rejecting-clause-more
+returns-in-Ok-None-first_rejecting-clause-more c =
+    both_asked _ _ _ _ _ _ c.split_at.ensures.by_index.0 c.split_at_mut-front.ensures.value
+    (c.split_at.ensures.front_len ∙ sym c.split_at_mut-front.ensures.front_len) c.first_rejecting-2.new.lines c.first_rejecting.new.lines
+    c.first_rejecting-2.ensures.more c.first_rejecting.ensures.more
+
+pub returns-in-Err-first_rejecting-clause-more : goal.returns-in-Err-first_rejecting-clause-more
+returns-in-Err-first_rejecting-clause-more c =
+    both_asked _ _ _ _ _ _ c.split_at.ensures.by_index.0 c.split_at_mut-front.ensures.value
+    (c.split_at.ensures.front_len ∙ sym c.split_at_mut-front.ensures.front_len) c.first_rejecting-2.new.lines c.first_rejecting.new.lines
+    c.first_rejecting-2.ensures.more c.first_rejecting.ensures.more
