@@ -48,7 +48,7 @@ QUESTIONS = "questions"
 OF_REQS = ("alike.py", "cli.sh", "counted.sh", "documented.py", "drawn.py", "ends.c", "ends.py", "help.txt", "install.sh", "numerals.py",
            "objects.py", "pages", "pairs.py", "refuse.c", "refused.py", "refused.sh", "rows.py", "runs.json", "runs.py", "sizes.py",
            "try.sh")
-OF_C = ("c", "c.py", "c.sh", "calls.py", "fuzz.py", "refuse.c", "runs.json")
+OF_C = ("c", "c.py", "c.sh", "calls.py", "fuzz.py", "objects.py", "refuse.c", "runs.json", "runs.py")
 
 
 class Part:

@@ -45,7 +45,7 @@ extern "C" {
 
 enum reqs_status {
     REQS_ANSWERED = 0,
-    REQS_DIFFERENT = 1, /* reqs_same: the lists don't require the same */
+    REQS_DIFFERENT = 1, /* reqs_same, reqs_same_json: the lists don't require the same */
     REQS_REFUSED = 2,   /* an argument is refused; out has the reason */
     REQS_MEMORY = 3     /* out of memory; length is 0 */
 };
@@ -102,6 +102,38 @@ reqs_reply reqs_conflicts(const uint8_t *requirements, size_t requirements_len,
 /* What `reqs normal` writes: the list in its normal form. */
 reqs_reply reqs_normal(const uint8_t *requirements, size_t requirements_len,
                        uint8_t *out, size_t out_len);
+
+/* ---- the same as JSON. The text of an answer is the object that the command prints with `--format json`, on
+ * one line that ends in a line feed (COMMANDS.md). A refusal is that of the call without _json: its place is
+ * in the reply, and the reason is text. */
+
+/* {"packages":[..]}: each required package with its extras and the outcome. */
+reqs_reply reqs_check_json(const uint8_t *requirements, size_t requirements_len,
+                           const uint8_t *environment, size_t environment_len,
+                           const uint8_t *candidates, size_t candidates_len,
+                           const uint8_t *extras, size_t extras_len,
+                           uint8_t *out, size_t out_len);
+
+/* {"environments":[..]}: the number of each environment, and its packages. */
+reqs_reply reqs_matrix_json(const uint8_t *requirements, size_t requirements_len,
+                            const uint8_t *environments, size_t environments_len,
+                            const uint8_t *candidates, size_t candidates_len,
+                            const uint8_t *extras, size_t extras_len,
+                            uint64_t limit, uint8_t *out, size_t out_len);
+
+/* REQS_ANSWERED and {"same":true}; otherwise REQS_DIFFERENT and {"marker":..,"package":..,"same":false}, in
+ * which the marker is null if the difference is in all environments. */
+reqs_reply reqs_same_json(const uint8_t *left, size_t left_len,
+                          const uint8_t *right, size_t right_len,
+                          uint64_t limit, uint8_t *out, size_t out_len);
+
+/* {"conflicts":[..]}: each case in which lines contradict each other, with their numbers. */
+reqs_reply reqs_conflicts_json(const uint8_t *requirements, size_t requirements_len,
+                               uint64_t limit, uint8_t *out, size_t out_len);
+
+/* {"requirements":[..]}: the lines of the list in its normal form. */
+reqs_reply reqs_normal_json(const uint8_t *requirements, size_t requirements_len,
+                            uint8_t *out, size_t out_len);
 
 /* ---- versions and specifiers (PEP 440) */
 

@@ -6,9 +6,10 @@
 SHARED and STATIC are tests/c/serve.c linked with libreqs.so and with libreqs.a, DEEP is tests/c/deep.c, FORKS is
 tests/c/forks.c, REFUSE is tests/refuse.c as a shared library, LIBRARIES is the folder of the two. What calls have to
 answer is of elsewhere: the examples and the stored runs of the command, whose answers are the calls', and rows of PEP 440
-and PEP 508. Each call is made with ample room; one of each kind with room of each smaller size, and with each of its
-requests for memory refused in turn. The program of docs/C.md is compiled by the commands there, and has to print what
-stands there. The odd inputs of fuzz.py are asked once. The last line is `c: N passed, M failed`.
+and PEP 508. What is answered as JSON has to tell the text of the same run. Each call is made with ample room; one of each
+kind with room of each smaller size, and with each of its requests for memory refused in turn. The program of docs/C.md is
+compiled by the commands there, and has to print what stands there. The odd inputs of fuzz.py are asked once. The last line is
+`c: N passed, M failed`.
 """
 
 import json
@@ -21,6 +22,7 @@ import tempfile
 from concurrent.futures import ThreadPoolExecutor
 
 import fuzz
+import objects
 from calls import request
 
 TOP = os.path.dirname(os.path.dirname(os.path.abspath(__file__)))
@@ -274,13 +276,27 @@ def environment():
         "python_full_version": "3.11.4", "python_version": "3.11", "sys_platform": "linux"}).encode()
 
 
+def text_told(call, reply):
+    """The text that a call for JSON tells: that of its object, which has to be written as the command does, or why it is refused."""
+    if reply.status == REFUSED:
+        return reply.text()
+    try:
+        answer = json.loads(reply.text())
+        is_line = objects.line_of(answer).encode() == reply.text()
+        return objects.text_of(call, answer).encode() if is_line else None
+    except (ValueError, KeyError, TypeError, AssertionError):
+        return None
+
+
 # ---- the tests
 
 def answers(program):
     """Calls with ample room, by a program."""
     for name, (call, texts), status, text in of_examples():
-        reply = made(program, [(call, texts)])[0]
+        reply, as_json = made(program, [(call, texts), (f"{call} json", texts)])
         wants(name, (reply.status, reply.text(), reply.place()) == (status, text, (0, 0, 0, 0)), reply)
+        told = as_json.status, text_told(call, as_json), as_json.place()
+        wants(f"{name}, as JSON", told == (status, text, (0, 0, 0, 0)), as_json)
     for call, text, wanted in TEXTS:
         reply = made(program, [(call, [text.encode()])])[0]
         wants(f"{call} of {text!r}", (reply.status, reply.text().decode()) == (ANSWERED, wanted), reply)
@@ -379,6 +395,15 @@ def runs(program):
             wants(f"run {run['name']}: {call[0]}", (reply.status, reply.text()) == (run["status"], text), reply)
 
 
+def runs_as_json(program):
+    """The stored runs: their calls for JSON end as those for text, and what is answered tells the text."""
+    for lot in in_lots([*of_runs()]):
+        texts, replies = (made(program, [(call + kind, *rest) for _, (call, *rest) in lot]) for kind in ("", " json"))
+        for (run, (call, *_)), text, reply in zip(lot, texts, replies):
+            told = reply.status, reply.place(), text_told(call, reply)
+            wants(f"run {run['name']}: {call} as JSON", told == (text.status, text.place(), text.text()), reply)
+
+
 def kinds():
     """One call of each kind, as it answers and as it is refused."""
     lists = [read("examples", "first", it) for it in ("requirements.txt", "environment.json", "candidates.txt")]
@@ -387,6 +412,9 @@ def kinds():
         ("check", [*lists, b"test\n"]), ("check", [b"a\n--b\n", *lists[1:], b""]), ("matrix", [lists[0], many, lists[2], b""]),
         ("same", [b"a\n", b"b>1; os_name == 'nt'\n"]), ("conflicts", [b"a<1\na>2\n"]),
         ("normal", [b"A >= 1.0 ; os_name=='nt'\n"]), ("normal", [b"a @ b"]),
+        ("check json", [*lists, b"test\n"]), ("check json", [b"a\n--b\n", *lists[1:], b""]),
+        ("matrix json", [lists[0], many, lists[2], b""]), ("same json", [b"a\n", b"b>1; os_name == 'nt'\n"]),
+        ("conflicts json", [b"a<1\na>2\n"]), ("normal json", [b"A >= 1.0 ; os_name=='nt'\n"]), ("normal json", [b"a @ b"]),
         ("version", [b"1.0RC1.post2.dev3+a.b"]), ("version", [b"1.0 x"]), ("key", [b"1!70000.2.3rc1+ubuntu.1"]),
         ("specifiers", [b">=1.0,<2,!=1.5.*"]), ("specifiers", [b">=1.0,2"]), ("take", [b">=1.0,===1.5", b"1.5\n2\nx\n"]),
         ("requirement", [b"a[b,c] >= 1; os_name == 'nt' or extra == 'e'"]),
@@ -521,6 +549,7 @@ def main(words):
     marker_keys(shared)
     batches(shared)
     runs(shared)
+    runs_as_json(shared)
     rooms(shared)
     documented()
     refusals(shared, refuse)

@@ -2,8 +2,9 @@
 
 import struct
 
-CALLS = ("check", "matrix", "same", "conflicts", "normal", "version", "key", "order", "specifiers", "take", "ranges disjoint", "subset",
-         "empty", "requirement", "marker", "marker key", "truth", "disjoint", "implies", "negated", "python", "extras", "hold", "abi")
+CALLS = ("check", "matrix", "same", "conflicts", "normal", "check json", "matrix json", "same json", "conflicts json", "normal json",
+         "version", "key", "order", "specifiers", "take", "ranges disjoint", "subset", "empty", "requirement", "marker", "marker key",
+         "truth", "disjoint", "implies", "negated", "python", "extras", "hold", "abi")
 
 
 def request(name, texts, limit, room):

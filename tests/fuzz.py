@@ -5,10 +5,10 @@
 
 tests/c/fuzz.c is linked with the archive that `./build reqs_c` makes, where none is named. It makes each call of
 tests/c/corpus.jsonl, and then for so many seconds, 600 by itself, calls with texts that are changed from these by what the seed
-draws. Each call is made twice, with ample room and with less. No call may read or write past what it is given, keep memory, reply
-twice otherwise, name a place outside of its texts, or print what doesn't read back. A line of corpus.jsonl is a call, its texts,
-of which `\\udcXX` is the byte XX, and maybe a limit; a call that fails is printed as such a line. The last line is
-`fuzz: N passed, M failed`.
+draws. Each call is made twice, with ample room and with less; so is, beside a command's, the one for its JSON, which has to end
+alike. No call may read or write past what it is given, keep memory, reply twice otherwise, name a place outside of its texts, or
+print what doesn't read back. A line of corpus.jsonl is a call, its texts, of which `\\udcXX` is the byte XX, and maybe a limit; a
+call that fails is printed as such a line. The last line is `fuzz: N passed, M failed`.
 """
 
 import argparse

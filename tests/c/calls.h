@@ -3,8 +3,9 @@
 #include "reqs.h"
 
 enum {
-    CHECK, MATRIX, SAME, CONFLICTS, NORMAL, VERSION, KEY, ORDER, SPECIFIERS, TAKE, RANGES_DISJOINT, SUBSET, EMPTY,
-    REQUIREMENT, MARKER, MARKER_KEY, TRUTH, DISJOINT, IMPLIES, NEGATED, PYTHON, EXTRAS, HOLD, ABI,
+    CHECK, MATRIX, SAME, CONFLICTS, NORMAL, CHECK_JSON, MATRIX_JSON, SAME_JSON, CONFLICTS_JSON, NORMAL_JSON, VERSION, KEY,
+    ORDER, SPECIFIERS, TAKE, RANGES_DISJOINT, SUBSET, EMPTY, REQUIREMENT, MARKER, MARKER_KEY, TRUTH, DISJOINT, IMPLIES,
+    NEGATED, PYTHON, EXTRAS, HOLD, ABI,
     CALLS
 };
 
@@ -28,6 +29,16 @@ static reqs_reply made(uint64_t which, const uint8_t *const *text, const uint64_
         return reqs_conflicts(T(0), limit, out, room);
     case NORMAL:
         return reqs_normal(T(0), out, room);
+    case CHECK_JSON:
+        return reqs_check_json(T(0), T(1), T(2), T(3), out, room);
+    case MATRIX_JSON:
+        return reqs_matrix_json(T(0), T(1), T(2), T(3), limit, out, room);
+    case SAME_JSON:
+        return reqs_same_json(T(0), T(1), limit, out, room);
+    case CONFLICTS_JSON:
+        return reqs_conflicts_json(T(0), limit, out, room);
+    case NORMAL_JSON:
+        return reqs_normal_json(T(0), out, room);
     case VERSION:
         return reqs_version(T(0), out, room);
     case KEY:

@@ -139,6 +139,13 @@ static void commands(int count) {
                                    sizeof out));
     answered("same", reqs_same(list.bytes, list.length, list.bytes, list.length, 4096, out, sizeof out));
     answered("normal", reqs_normal(list.bytes, list.length, out, sizeof out));
+    answered("check as JSON", reqs_check_json(list.bytes, list.length, one.bytes, one.length, candidates, 4, asked, 3, out,
+                                              sizeof out));
+    answered("matrix as JSON", reqs_matrix_json(list.bytes, list.length, where.bytes, where.length, candidates, 4, asked, 3, 4096, out,
+                                                sizeof out));
+    answered("same as JSON", reqs_same_json(list.bytes, list.length, list.bytes, list.length, 4096, out, sizeof out));
+    answered("conflicts as JSON", reqs_conflicts_json(list.bytes, list.length, 4096, out, sizeof out));
+    answered("normal as JSON", reqs_normal_json(list.bytes, list.length, out, sizeof out));
     answered("requirement", reqs_requirement(list.bytes, list.length, out, sizeof out));
     reqs_reply reply = reqs_conflicts(list.bytes, list.length, 4096, out, sizeof out);
     if (reply.status != REQS_ANSWERED || reply.length != 0) {

@@ -56,6 +56,26 @@ static reqs_reply normal(uint8_t *out) {
     return reqs_normal(TEXT(REQUIREMENTS), OUT);
 }
 
+static reqs_reply check_json(uint8_t *out) {
+    return reqs_check_json(TEXT(REQUIREMENTS), TEXT(ENVIRONMENT), TEXT("a 1\na 2\n"), TEXT(""), OUT);
+}
+
+static reqs_reply matrix_json(uint8_t *out) {
+    return reqs_matrix_json(TEXT(REQUIREMENTS), TEXT(environments), TEXT("a 1\na 2\n"), TEXT("x"), 4096, OUT);
+}
+
+static reqs_reply same_json(uint8_t *out) {
+    return reqs_same_json(TEXT("a>2\n"), TEXT("a>2\nb; os_name == 'nt'\n"), 4096, OUT);
+}
+
+static reqs_reply conflicts_json(uint8_t *out) {
+    return reqs_conflicts_json(TEXT("a<1\na>2\n"), 4096, OUT);
+}
+
+static reqs_reply normal_json(uint8_t *out) {
+    return reqs_normal_json(TEXT("A >= 1.0 ; os_name=='nt'\n"), OUT);
+}
+
 static reqs_reply version(uint8_t *out) {
     return reqs_version(TEXT("1.0-RC.1+a.b"), OUT);
 }
@@ -138,9 +158,10 @@ static reqs_reply markers_hold(uint8_t *out) {
 
 /* Each call of the header that takes memory, and two that are refused. */
 static reqs_reply (*const CALLS[])(uint8_t *) = {
-    check, matrix, same, conflicts, normal, version, no_version, version_key, version_order, specifiers, specifiers_take,
-    specifiers_disjoint, specifiers_subset, specifiers_empty, requirement, marker, no_marker, marker_key, marker_truth,
-    markers_disjoint, marker_implies, marker_negated, marker_simplify_python, marker_simplify_extras, markers_hold};
+    check, matrix, same, conflicts, normal, check_json, matrix_json, same_json, conflicts_json, normal_json, version,
+    no_version, version_key, version_order, specifiers, specifiers_take, specifiers_disjoint, specifiers_subset,
+    specifiers_empty, requirement, marker, no_marker, marker_key, marker_truth, markers_disjoint, marker_implies,
+    marker_negated, marker_simplify_python, marker_simplify_extras, markers_hold};
 #define COUNT (sizeof CALLS / sizeof *CALLS)
 
 static struct {

@@ -3,9 +3,10 @@
  *     fuzz CORPUS CURRENT SEED SECONDS
  *
  * CORPUS has requests as serve.c reads them. Each is made once; then, while there is time, round after round takes one of them,
- * changes its texts by what SEED and the number of the round draw, and makes it. Each text ends where the next page can't be
- * read, and so does the room for the answer, so that a byte too many ends the process. CURRENT is a file that has the request
- * that is being made. A line tells of what was not as it should be, and then the status is 1. */
+ * changes its texts by what SEED and the number of the round draw, and makes it. Where a command's text is asked its JSON is too.
+ * Each text ends where the next page can't be read, and so does the room for the answer, so that a byte too many ends the
+ * process. CURRENT is a file that has the request that is being made. A line tells of what was not as it should be, and then the
+ * status is 1. */
 
 #include "calls.h"
 
@@ -173,7 +174,7 @@ static void judge(const struct request *it, const reqs_reply *reply, const uint8
         }
         return;
     }
-    if (reply->status > REQS_REFUSED || (reply->status == REQS_DIFFERENT && it->which != SAME)) {
+    if (reply->status > REQS_REFUSED || (reply->status == REQS_DIFFERENT && it->which != SAME && it->which != SAME_JSON)) {
         stop("a status that the call doesn't give");
     }
     ended[reply->status] += 1;
@@ -229,9 +230,15 @@ static void ask_again(const struct request *it, const uint8_t *answer, size_t le
     }
 }
 
-/* Makes a request with ample room and with less: the reply is the same, and the answer's front. */
-static void ask_both(const struct request *it) {
-    static uint8_t whole[SPACE];
+/* Whether two replies say the same, but for the answers' lengths. */
+static int end_alike(const reqs_reply *one, const reqs_reply *other) {
+    return one->status == other->status && one->input == other->input && one->line == other->line && one->start == other->start
+           && one->len == other->len;
+}
+
+/* Makes a request with ample room, of which `whole` has what is written, and with less: the reply is the same, and the answer's
+ * front. */
+static reqs_reply ask_both(const struct request *it, uint8_t *whole) {
     uint8_t *out;
     reqs_reply first = ask(*it, SPACE, &out);
     memcpy(whole, out, SPACE);
@@ -239,8 +246,7 @@ static void ask_both(const struct request *it) {
     size_t length = is_text && first.length < SPACE ? first.length : 64;
     size_t room = (size_t)draw(length + 2);
     reqs_reply second = ask(*it, room, &out);
-    if (memcmp(&first.length, &second.length, sizeof first.length) != 0 || first.status != second.status || first.input != second.input
-        || first.line != second.line || first.start != second.start || first.len != second.len) {
+    if (first.length != second.length || !end_alike(&first, &second)) {
         stop("another reply to the same call");
     }
     if (is_text && memcmp(whole, out, room < first.length ? room : first.length) != 0) {
@@ -248,6 +254,34 @@ static void ask_both(const struct request *it) {
     }
     if (is_text && first.status == REQS_ANSWERED && first.length <= SPACE) {
         ask_again(it, whole, first.length);
+    }
+    return first;
+}
+
+/* Makes a request, and where a command's text is asked also the one for its JSON: this ends alike, and is refused by the same
+ * text, or answers by one line. */
+static void ask_all(const struct request *it) {
+    static uint8_t text[SPACE], json[SPACE];
+    reqs_reply first = ask_both(it, text);
+    if (it->which > NORMAL) {
+        return;
+    }
+    struct request as_json = *it;
+    as_json.which += CHECK_JSON - CHECK;
+    reqs_reply second = ask_both(&as_json, json);
+    size_t length = second.length;
+    if (!end_alike(&first, &second)) {
+        stop("JSON that ends otherwise than the text");
+    }
+    if (length > SPACE) {
+        return;
+    }
+    if (second.status == REQS_REFUSED && (length != first.length || memcmp(text, json, length) != 0)) {
+        stop("another reason than the one of the text");
+    }
+    int is_line = length >= 3 && json[0] == '{' && json[length - 2] == '}' && memchr(json, '\n', length) == json + length - 1;
+    if (second.status != REQS_REFUSED && !is_line) {
+        stop("an answer that is no object on a line");
     }
 }
 
@@ -314,7 +348,7 @@ static void fuzzed(void) {
             it.size[i] = changed(texts[i], it.size[i], most);
         }
     }
-    ask_both(&it);
+    ask_all(&it);
 }
 
 int main(int count, char **words) {
@@ -333,7 +367,7 @@ int main(int count, char **words) {
     fenced_out = fence();
     signal(SIGALRM, hangs);
     for (size_t i = 0; i < request_count; i++) {
-        ask_both(&requests[i]);
+        ask_all(&requests[i]);
     }
     uint64_t seed = strtoull(words[3], NULL, 10);
     time_t end = time(NULL) + (time_t)strtoull(words[4], NULL, 10);

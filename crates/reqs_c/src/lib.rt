@@ -5,6 +5,7 @@
 //! precondition, and none keeps anything. The contract of each says what its reply and the caller's buffer
 //! are, in terms of the texts.
 
+mod json_lists;
 mod lists;
 mod markers;
 mod requirements;

@@ -1,9 +1,10 @@
-//! Lists of requirements: the commands of `reqs`.
+//! Lists of requirements: the commands of `reqs`, whose answers are text.
 
 ghost use Rattle.reqs_c_reply.specs.Endings.{RepliesAs};
 ghost use Rattle.reqs_c_lists.specs.Commands.{CheckEnds, MatrixEnds, SameEnds, ConflictsEnd, NormalEnds};
 
 use reqs_c_reply::Reply;
+use reqs_json::Format;
 use std::alloc::Global;
 
 /// The answer of `reqs check` for one environment. `extras` has one extra per line.
@@ -16,10 +17,19 @@ pub extern "C" fn reqs_check(
     extras: &[u8],
     out: &mut [u8],
 ) -> Reply
-    ensures { RepliesAs (CheckEnds requirements.now environment.now candidates.now extras.now)
+    ensures { RepliesAs
+        (CheckEnds Format.Text requirements.now environment.now candidates.now extras.now)
         out.old out.new result }
 {
-    reqs_c_lists::check(alloc, requirements, environment, candidates, extras, out)
+    reqs_c_lists::check(
+        alloc,
+        requirements,
+        environment,
+        candidates,
+        extras,
+        Format::Text,
+        out,
+    )
 }
 
 /// The answer of `reqs matrix` for many environments. `extras` has one extra per line, and no package may
@@ -34,7 +44,8 @@ pub extern "C" fn reqs_matrix(
     limit: u64,
     out: &mut [u8],
 ) -> Reply
-    ensures { RepliesAs (MatrixEnds limit requirements.now environments.now candidates.now extras.now)
+    ensures { RepliesAs
+        (MatrixEnds Format.Text limit requirements.now environments.now candidates.now extras.now)
         out.old out.new result }
 {
     reqs_c_lists::matrix(
@@ -44,6 +55,7 @@ pub extern "C" fn reqs_matrix(
         candidates,
         extras,
         limit,
+        Format::Text,
         out,
     )
 }
@@ -57,9 +69,9 @@ pub extern "C" fn reqs_same(
     limit: u64,
     out: &mut [u8],
 ) -> Reply
-    ensures { RepliesAs (SameEnds limit left.now right.now) out.old out.new result }
+    ensures { RepliesAs (SameEnds Format.Text limit left.now right.now) out.old out.new result }
 {
-    reqs_c_lists::same(alloc, left, right, limit, out)
+    reqs_c_lists::same(alloc, left, right, limit, Format::Text, out)
 }
 
 /// The answer of `reqs conflicts` on a list. No package may have more cases than `limit`.
@@ -70,15 +82,15 @@ pub extern "C" fn reqs_conflicts(
     limit: u64,
     out: &mut [u8],
 ) -> Reply
-    ensures { RepliesAs (ConflictsEnd limit requirements.now) out.old out.new result }
+    ensures { RepliesAs (ConflictsEnd Format.Text limit requirements.now) out.old out.new result }
 {
-    reqs_c_lists::conflicts(alloc, requirements, limit, out)
+    reqs_c_lists::conflicts(alloc, requirements, limit, Format::Text, out)
 }
 
 /// The answer of `reqs normal`: the list in its normal form.
 #[unsafe(no_mangle)]
 pub extern "C" fn reqs_normal(alloc: Global, requirements: &[u8], out: &mut [u8]) -> Reply
-    ensures { RepliesAs (NormalEnds requirements.now) out.old out.new result }
+    ensures { RepliesAs (NormalEnds Format.Text requirements.now) out.old out.new result }
 {
-    reqs_c_lists::normal(alloc, requirements, out)
+    reqs_c_lists::normal(alloc, requirements, Format::Text, out)
 }

@@ -7,7 +7,7 @@ use Rattle.reqs_io_faults.specs.declared.fault.RunFault.TheVariants.{TooLong}
 use Rattle.reqs_io_faults.specs.declared.fault.Status.{Status}
 use Rattle.reqs_io_faults.specs.declared.fault.Status.TheVariants as status
 use Rattle.reqs_io_faults.specs.Ends.{Answering, Refusing, AreWithin, place_of, of_input}
-use Rattle.reqs_json.specs.declared.format.Format.TheVariants as format
+use Rattle.reqs_json.specs.declared.format.Format.{Format}
 use Rattle.reqs_lists.specs.Comparison.{SameAnswersAs, SameRefuses}
 use Rattle.reqs_lists.specs.Contradictions.{ConflictsAnswerAs, ConflictsRefuse}
 use Rattle.reqs_lists.specs.Normal.{NormalAnswersAs, NormalRefuses}
@@ -46,7 +46,7 @@ WithExtras argument Ends extras ending =
     ((is_utf8 extras ≡ true) × Ends (filled_lines extras) ending)
     ⊎ EndsIn NoAnswer (IsNotText argument extras) ending
 
--- ---- the commands
+-- ---- the commands, whose answers are in a format; a refusal's message is the same in each
 
 -- the names of the inputs in messages
 abbrev pub check_names : List (List ℕ)
@@ -62,42 +62,42 @@ abbrev pub list_names : List (List ℕ)
 list_names = codes "requirements" ∷ []
 
 -- `reqs check`
-abbrev pub ChecksInputs : List (List ℕ) → List (List ℕ) → Ending → Type 0
-ChecksInputs inputs extras =
-    CommandEnds (ChecksAs format.Text no_variables extras) (CheckRefuses no_variables extras)
+abbrev pub ChecksInputs : Format → List (List ℕ) → List (List ℕ) → Ending → Type 0
+ChecksInputs format inputs extras =
+    CommandEnds (ChecksAs format no_variables extras) (CheckRefuses no_variables extras)
     (IsToldAt check_names 4) inputs
 
-abbrev pub CheckEnds : List ℕ → List ℕ → List ℕ → List ℕ → Ending → Type 0
-CheckEnds requirements environment candidates =
-    WithExtras 4 (ChecksInputs (requirements ∷ environment ∷ candidates ∷ []))
+abbrev pub CheckEnds : Format → List ℕ → List ℕ → List ℕ → List ℕ → Ending → Type 0
+CheckEnds format requirements environment candidates =
+    WithExtras 4 (ChecksInputs format (requirements ∷ environment ∷ candidates ∷ []))
 
 -- `reqs matrix`
-abbrev pub TablesInputs : ℕ → List (List ℕ) → List (List ℕ) → Ending → Type 0
-TablesInputs limit inputs extras =
-    CommandEnds (MatrixAnswersAs format.Text limit no_variables extras)
+abbrev pub TablesInputs : Format → ℕ → List (List ℕ) → List (List ℕ) → Ending → Type 0
+TablesInputs format limit inputs extras =
+    CommandEnds (MatrixAnswersAs format limit no_variables extras)
     (MatrixRefuses limit no_variables extras)
     (IsToldAt matrix_names 4) inputs
 
-abbrev pub MatrixEnds : ℕ → List ℕ → List ℕ → List ℕ → List ℕ → Ending → Type 0
-MatrixEnds limit requirements environments candidates =
-    WithExtras 4 (TablesInputs limit (requirements ∷ environments ∷ candidates ∷ []))
+abbrev pub MatrixEnds : Format → ℕ → List ℕ → List ℕ → List ℕ → List ℕ → Ending → Type 0
+MatrixEnds format limit requirements environments candidates =
+    WithExtras 4 (TablesInputs format limit (requirements ∷ environments ∷ candidates ∷ []))
 
 -- `reqs same`
-abbrev pub SameEnds : ℕ → List ℕ → List ℕ → Ending → Type 0
-SameEnds limit left right =
-    CommandEnds (SameAnswersAs format.Text limit no_variables) (SameRefuses limit no_variables)
+abbrev pub SameEnds : Format → ℕ → List ℕ → List ℕ → Ending → Type 0
+SameEnds format limit left right =
+    CommandEnds (SameAnswersAs format limit no_variables) (SameRefuses limit no_variables)
     (IsToldAt same_names 0) (left ∷ right ∷ [])
 
 -- `reqs conflicts`
-abbrev pub ConflictsEnd : ℕ → List ℕ → Ending → Type 0
-ConflictsEnd limit requirements =
-    CommandEnds (ConflictsAnswerAs format.Text limit no_variables) (ConflictsRefuse limit no_variables)
+abbrev pub ConflictsEnd : Format → ℕ → List ℕ → Ending → Type 0
+ConflictsEnd format limit requirements =
+    CommandEnds (ConflictsAnswerAs format limit no_variables) (ConflictsRefuse limit no_variables)
     (IsToldAt list_names 0) (requirements ∷ [])
 
 -- `reqs normal`
-abbrev pub NormalEnds : List ℕ → Ending → Type 0
-NormalEnds requirements =
-    CommandEnds (NormalAnswersAs format.Text no_variables) (NormalRefuses no_variables)
+abbrev pub NormalEnds : Format → List ℕ → Ending → Type 0
+NormalEnds format requirements =
+    CommandEnds (NormalAnswersAs format no_variables) (NormalRefuses no_variables)
     (IsToldAt list_names 0) (requirements ∷ [])
 
 -- ---- the result of a command

@@ -24,25 +24,26 @@ const MATRIX_NAMES: [&str; 3] = ["requirements", "environments", "candidates"];
 /// The number of the argument with the extras.
 const EXTRAS: u32 = 4;
 
-/// Replies with what `reqs::check` writes. `extras` has one extra per line; empty lines are skipped. Needs
-/// memory for copies of the inputs, in addition to what the command needs.
+/// Replies with what `reqs::check` writes in this format. `extras` has one extra per line; empty lines are
+/// skipped. Needs memory for copies of the inputs, in addition to what the command needs.
 ///
 /// # Errors
 ///
-/// Refuses what `reqs::check` does, with its message and the place of what is wrong. Status 3 when memory
-/// runs out.
+/// Refuses what `reqs::check` does, with its message as text and the place of what is wrong. Status 3 when
+/// memory runs out.
 pub fn check(
     alloc: Global,
     requirements: &[u8],
     environment: &[u8],
     candidates: &[u8],
     extras: &[u8],
+    format: Format,
     out: &mut [u8],
 ) -> Reply
-    ensures { RepliesAs (CheckEnds requirements.now environment.now candidates.now extras.now)
+    ensures { RepliesAs (CheckEnds format requirements.now environment.now candidates.now extras.now)
         out.old out.new result }
 {
-    checked(alloc, requirements, environment, candidates, extras).reply(out)
+    checked(alloc, requirements, environment, candidates, extras, format).reply(out)
 }
 
 /// How `check` ends.
@@ -52,8 +53,9 @@ fn checked(
     environment: &[u8],
     candidates: &[u8],
     extras: &[u8],
+    format: Format,
 ) -> Ended
-    ensures { CheckEnds requirements.now environment.now candidates.now extras.now (ending_of result) }
+    ensures { CheckEnds format requirements.now environment.now candidates.now extras.now (ending_of result) }
 {
     let extras = match text_of(alloc, EXTRAS, extras) {
         Ok(text) => text,
@@ -65,7 +67,15 @@ fn checked(
     let Ok(vars) = no_variables(alloc) else {
         return Ended::OutOfMemory;
     };
-    checked_with(alloc, requirements, environment, candidates, &extras, &vars)
+    checked_with(
+        alloc,
+        requirements,
+        environment,
+        candidates,
+        &extras,
+        &vars,
+        format,
+    )
 }
 
 /// How `check` ends with these extras and variables.
@@ -76,8 +86,9 @@ fn checked_with(
     candidates: &[u8],
     extras: &[&str],
     vars: &Vars,
+    format: Format,
 ) -> Ended
-    ensures { CommandEnds (ChecksAs Format.Text vars.now (map (λ e. e.now) extras.now))
+    ensures { CommandEnds (ChecksAs format vars.now (map (λ e. e.now) extras.now))
         (CheckRefuses vars.now (map (λ e. e.now) extras.now)) (IsToldAt check_names 4)
         (requirements.now ∷ environment.now ∷ candidates.now ∷ []) (ending_of result) }
 {
@@ -94,20 +105,20 @@ fn checked_with(
         &mut candidates,
         extras,
         vars,
-        Format::Text,
+        format,
         &mut text,
     );
     ended(alloc, ran, text, &CHECK_NAMES, EXTRAS)
 }
 
-/// Replies with what `reqs::matrix` writes, with at most `limit` cases for a package. `extras` has one extra
-/// per line; empty lines are skipped. Needs memory for copies of the inputs, in addition to what the command
-/// needs.
+/// Replies with what `reqs::matrix` writes in this format, with at most `limit` cases for a package. `extras`
+/// has one extra per line; empty lines are skipped. Needs memory for copies of the inputs, in addition to
+/// what the command needs.
 ///
 /// # Errors
 ///
-/// Refuses what `reqs::matrix` does, with its message and the place of what is wrong. Status 3 when memory
-/// runs out.
+/// Refuses what `reqs::matrix` does, with its message as text and the place of what is wrong. Status 3 when
+/// memory runs out.
 pub fn matrix(
     alloc: Global,
     requirements: &[u8],
@@ -115,12 +126,22 @@ pub fn matrix(
     candidates: &[u8],
     extras: &[u8],
     limit: u64,
+    format: Format,
     out: &mut [u8],
 ) -> Reply
-    ensures { RepliesAs (MatrixEnds limit requirements.now environments.now candidates.now extras.now)
+    ensures { RepliesAs (MatrixEnds format limit requirements.now environments.now candidates.now extras.now)
         out.old out.new result }
 {
-    tabled(alloc, requirements, environments, candidates, extras, limit).reply(out)
+    tabled(
+        alloc,
+        requirements,
+        environments,
+        candidates,
+        extras,
+        limit,
+        format,
+    )
+    .reply(out)
 }
 
 /// How `matrix` ends.
@@ -131,8 +152,9 @@ fn tabled(
     candidates: &[u8],
     extras: &[u8],
     limit: u64,
+    format: Format,
 ) -> Ended
-    ensures { MatrixEnds limit requirements.now environments.now candidates.now extras.now
+    ensures { MatrixEnds format limit requirements.now environments.now candidates.now extras.now
         (ending_of result) }
 {
     let extras = match text_of(alloc, EXTRAS, extras) {
@@ -153,6 +175,7 @@ fn tabled(
         &extras,
         &vars,
         limit,
+        format,
     )
 }
 
@@ -165,8 +188,9 @@ fn tabled_with(
     extras: &[&str],
     vars: &Vars,
     limit: u64,
+    format: Format,
 ) -> Ended
-    ensures { CommandEnds (MatrixAnswersAs Format.Text limit vars.now (map (λ e. e.now) extras.now))
+    ensures { CommandEnds (MatrixAnswersAs format limit vars.now (map (λ e. e.now) extras.now))
         (MatrixRefuses limit vars.now (map (λ e. e.now) extras.now)) (IsToldAt matrix_names 4)
         (requirements.now ∷ environments.now ∷ candidates.now ∷ []) (ending_of result) }
 {
@@ -184,7 +208,7 @@ fn tabled_with(
         extras,
         vars,
         limit,
-        Format::Text,
+        format,
         &mut text,
     );
     ended(alloc, ran, text, &MATRIX_NAMES, EXTRAS)

@@ -49,7 +49,8 @@ mod version;
 
 pub use answers::{Conflict, Outcome, Row, Same};
 pub use lists::{
-    check, check_text, conflicts, conflicts_text, matrix, matrix_text, normal, same, LIMIT,
+    check, check_json, check_text, conflicts, conflicts_json, conflicts_text, matrix, matrix_json,
+    matrix_text, normal, normal_json, same, same_json, LIMIT,
 };
 pub use marker::MarkerTree;
 pub use refused::Refused;

@@ -1,7 +1,8 @@
 //! Lists of requirements: the five commands of the program `reqs`, over texts.
 
 use crate::elements::elements;
-use crate::{grammar, native, Conflict, Refused, Row, Same};
+use crate::native::{self, Format};
+use crate::{grammar, Conflict, Refused, Row, Same};
 
 /// The default limit on the cases of a package.
 pub const LIMIT: u64 = 4096;
@@ -48,7 +49,36 @@ pub fn check_text(
     candidates: &[u8],
     extras: &[&str],
 ) -> Result<String, Refused> {
-    native::check([requirements, environment, candidates], extras)
+    let lists = [requirements, environment, candidates];
+    native::check(lists, extras, Format::Text)
+}
+
+/// The rows of [`check`] as the JSON that `reqs check --format json` prints: an object on one line, whose
+/// `packages` are objects with the `extras`, the `name`, the `outcome` (`"none"`, `"direct"` or `"version"`)
+/// and the `version`, which is null unless it is the outcome.
+///
+/// ```
+/// let environment = br#"{"implementation_name": "cpython", "implementation_version": "3.11.7", "os_name": "posix",
+///     "platform_machine": "x86_64", "platform_python_implementation": "CPython", "platform_release": "6.1",
+///     "platform_system": "Linux", "platform_version": "", "python_full_version": "3.11.7",
+///     "python_version": "3.11", "sys_platform": "linux"}"#;
+/// let json = fowlyore::check_json(b"foo[bar]>=1\n", environment, b"foo 1.5\n", &[])?;
+/// let row = r#"{"extras":["bar"],"name":"foo","outcome":"version","version":"1.5"}"#;
+/// assert_eq!(json, format!("{{\"packages\":[{row}]}}\n"));
+/// # Ok::<(), fowlyore::Refused>(())
+/// ```
+///
+/// # Errors
+///
+/// As those of [`check`].
+pub fn check_json(
+    requirements: &[u8],
+    environment: &[u8],
+    candidates: &[u8],
+    extras: &[&str],
+) -> Result<String, Refused> {
+    let lists = [requirements, environment, candidates];
+    native::check(lists, extras, Format::Json)
 }
 
 /// The rows of [`check`] for each environment of a JSON list. They are read off one table, in which no
@@ -114,7 +144,38 @@ pub fn matrix_text(
     extras: &[&str],
     limit: u64,
 ) -> Result<String, Refused> {
-    native::matrix([requirements, environments, candidates], extras, limit)
+    let lists = [requirements, environments, candidates];
+    native::matrix(lists, extras, limit, Format::Text)
+}
+
+/// The rows of [`matrix`] as the JSON that `reqs matrix --format json` prints: an object on one line, whose
+/// `environments` are objects with the `number` of each, from 1, and the `packages` of [`check_json`].
+///
+/// ```
+/// use fowlyore::{matrix_json, LIMIT};
+///
+/// let environments = br#"[{"implementation_name": "cpython", "implementation_version": "3.11.7", "os_name": "posix",
+///     "platform_machine": "x86_64", "platform_python_implementation": "CPython", "platform_release": "6.1",
+///     "platform_system": "Linux", "platform_version": "", "python_full_version": "3.11.7",
+///     "python_version": "3.11", "sys_platform": "linux"}]"#;
+/// let json = matrix_json(b"foo>=1\n", environments, b"foo 0.5\n", &[], LIMIT)?;
+/// let row = r#"{"extras":[],"name":"foo","outcome":"none","version":null}"#;
+/// assert_eq!(json, format!("{{\"environments\":[{{\"number\":1,\"packages\":[{row}]}}]}}\n"));
+/// # Ok::<(), fowlyore::Refused>(())
+/// ```
+///
+/// # Errors
+///
+/// As those of [`matrix`].
+pub fn matrix_json(
+    requirements: &[u8],
+    environments: &[u8],
+    candidates: &[u8],
+    extras: &[&str],
+    limit: u64,
+) -> Result<String, Refused> {
+    let lists = [requirements, environments, candidates];
+    native::matrix(lists, extras, limit, Format::Json)
 }
 
 fn rows_of(text: &str) -> Vec<Row> {
@@ -144,13 +205,34 @@ fn lines_of(text: &str) -> std::str::SplitTerminator<'_, char> {
 /// `Refused` for an invalid list, then for the first line that can't be compared, and then for the first
 /// package by name with more cases than `limit`, of the left list first.
 pub fn same(left: &[u8], right: &[u8], limit: u64) -> Result<Same, Refused> {
-    let answer = native::same(left, right, limit)?;
+    let answer = native::same(left, right, limit, Format::Text)?;
     if !answer.is_different {
         return Ok(Same::Yes);
     }
     let text = answer.text();
     let printed = text.strip_suffix('\n').unwrap_or(&text);
     Ok(printed.parse().expect("the library prints a difference"))
+}
+
+/// The answer of [`same`] as the JSON that `reqs same --format json` prints: an object on one line. Its
+/// `same` is true, or it is false and the object has the `package` and the `marker`, which is null if the
+/// difference is everywhere.
+///
+/// ```
+/// use fowlyore::{same_json, LIMIT};
+///
+/// assert_eq!(same_json(b"foo>=1,<2\n", b"Foo<2.0\nfoo>=1\n", LIMIT)?, "{\"same\":true}\n");
+/// let json = same_json(b"foo\n", b"foo\nbar ; sys_platform == 'win32'\n", LIMIT)?;
+/// let no = r#"{"marker":"sys_platform == 'win32'","package":"bar","same":false}"#;
+/// assert_eq!(json, format!("{no}\n"));
+/// # Ok::<(), fowlyore::Refused>(())
+/// ```
+///
+/// # Errors
+///
+/// As those of [`same`].
+pub fn same_json(left: &[u8], right: &[u8], limit: u64) -> Result<String, Refused> {
+    native::same(left, right, limit, Format::Json).map(native::Answer::text)
 }
 
 /// The cases of packages whose lines contradict each other: no plain version, one without a local part that
@@ -182,7 +264,25 @@ pub fn conflicts(requirements: &[u8], limit: u64) -> Result<Vec<Conflict>, Refus
 ///
 /// As those of [`conflicts`].
 pub fn conflicts_text(requirements: &[u8], limit: u64) -> Result<String, Refused> {
-    native::conflicts(requirements, limit)
+    native::conflicts(requirements, limit, Format::Text)
+}
+
+/// The answer of [`conflicts`] as the JSON that `reqs conflicts --format json` prints: an object on one line,
+/// whose `conflicts` are objects with the `lines`, the `package`, and whether one of the lines names a
+/// pre-release (`prerelease`).
+///
+/// ```
+/// let json = fowlyore::conflicts_json(b"foo>=2\nbar\nfoo<1\n", fowlyore::LIMIT)?;
+/// let conflict = r#"{"lines":[1,3],"package":"foo","prerelease":false}"#;
+/// assert_eq!(json, format!("{{\"conflicts\":[{conflict}]}}\n"));
+/// # Ok::<(), fowlyore::Refused>(())
+/// ```
+///
+/// # Errors
+///
+/// As those of [`conflicts`].
+pub fn conflicts_json(requirements: &[u8], limit: u64) -> Result<String, Refused> {
+    native::conflicts(requirements, limit, Format::Json)
 }
 
 /// The list in its normal form, without the lines that never apply.
@@ -196,5 +296,21 @@ pub fn conflicts_text(requirements: &[u8], limit: u64) -> Result<String, Refused
 ///
 /// `Refused` for an invalid list, and then for the first line that has no normal form.
 pub fn normal(requirements: &[u8]) -> Result<String, Refused> {
-    native::normal(requirements)
+    native::normal(requirements, Format::Text)
+}
+
+/// The list in its normal form as the JSON that `reqs normal --format json` prints: an object on one line,
+/// whose `requirements` are the lines of [`normal`].
+///
+/// ```
+/// let json = fowlyore::normal_json(b"Foo_Bar [b , a] < 2.0 , >= 1.16\n")?;
+/// assert_eq!(json, "{\"requirements\":[\"foo-bar[b,a]>=1.16,<2.0\"]}\n");
+/// # Ok::<(), fowlyore::Refused>(())
+/// ```
+///
+/// # Errors
+///
+/// As those of [`normal`].
+pub fn normal_json(requirements: &[u8]) -> Result<String, Refused> {
+    native::normal(requirements, Format::Json)
 }

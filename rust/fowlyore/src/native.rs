@@ -23,6 +23,8 @@ const KEY_REFUSED: i64 = -2;
 const ROOM: usize = 256;
 /// The greatest size of a buffer for an answer about lists before its length is known.
 const MOST_ROOM: usize = 16 << 20;
+/// The number of bytes by which the JSON of a row or a conflict exceeds its text, if it has few extras.
+const ROOM_FOR_KEYS: usize = 64;
 /// The number of the text with the extras.
 const EXTRAS_OF_LISTS: u32 = 4;
 const EXTRAS_OF_MARKERS: u32 = 3;
@@ -65,6 +67,26 @@ extern "C" {
         requirements: *const u8, requirements_len: usize, limit: u64, out: *mut u8, out_len: usize,
     ) -> Reply;
     fn reqs_normal(requirements: *const u8, requirements_len: usize, out: *mut u8, out_len: usize) -> Reply;
+    fn reqs_check_json(
+        requirements: *const u8, requirements_len: usize, environment: *const u8, environment_len: usize,
+        candidates: *const u8, candidates_len: usize, extras: *const u8, extras_len: usize,
+        out: *mut u8, out_len: usize,
+    ) -> Reply;
+    fn reqs_matrix_json(
+        requirements: *const u8, requirements_len: usize, environments: *const u8, environments_len: usize,
+        candidates: *const u8, candidates_len: usize, extras: *const u8, extras_len: usize,
+        limit: u64, out: *mut u8, out_len: usize,
+    ) -> Reply;
+    fn reqs_same_json(
+        left: *const u8, left_len: usize, right: *const u8, right_len: usize,
+        limit: u64, out: *mut u8, out_len: usize,
+    ) -> Reply;
+    fn reqs_conflicts_json(
+        requirements: *const u8, requirements_len: usize, limit: u64, out: *mut u8, out_len: usize,
+    ) -> Reply;
+    fn reqs_normal_json(
+        requirements: *const u8, requirements_len: usize, out: *mut u8, out_len: usize,
+    ) -> Reply;
     fn reqs_version(text: *const u8, text_len: usize, out: *mut u8, out_len: usize) -> Reply;
     fn reqs_version_key(text: *const u8, text_len: usize, out: *mut u8, out_len: usize) -> i64;
     fn reqs_specifiers(text: *const u8, text_len: usize, out: *mut u8, out_len: usize) -> Reply;
@@ -103,6 +125,28 @@ extern "C" {
     ) -> Reply;
     fn reqs_specifiers_empty(text: *const u8, text_len: usize, out: *mut u8, out_len: usize) -> Reply;
 }
+}
+
+/// The format of an answer about lists.
+#[derive(Clone, Copy)]
+pub(crate) enum Format {
+    /// Lines of text.
+    Text,
+    /// One JSON object, on one line.
+    Json,
+}
+
+impl Format {
+    /// The buffer size for rows about `environments` environments: the text of a row is seldom longer than
+    /// the line that requires it.
+    fn room_for_rows(self, requirements: &[u8], environments: usize) -> usize {
+        let keys = match self {
+            Format::Text => 0,
+            Format::Json => ROOM_FOR_KEYS * requirements.iter().filter(|it| **it == b'\n').count(),
+        };
+        let each = ROOM + requirements.len() + keys;
+        each.saturating_mul(environments).clamp(ROOM, MOST_ROOM)
+    }
 }
 
 /// The answer of a call, and whether it is that two lists differ.
@@ -187,13 +231,6 @@ fn extra_lines(extras: &[&str], input: u32) -> Result<String, Refused> {
             len: 0,
         }),
     }
-}
-
-/// The buffer size for rows about `environments` environments: a row is seldom longer than the line that
-/// requires it.
-fn room_for_rows(requirements: &[u8], environments: usize) -> usize {
-    let each = ROOM + requirements.len();
-    each.saturating_mul(environments).clamp(ROOM, MOST_ROOM)
 }
 
 /// The answer of a function about texts, each of which is passed as a pointer and a length, and perhaps with
@@ -317,41 +354,71 @@ pub(crate) fn markers_hold(
     asked!(reqs_markers_hold, ROOM, markers, environment, extras).map(Answer::text)
 }
 
-pub(crate) fn check(lists: [&[u8]; 3], extras: &[&str]) -> Result<String, Refused> {
-    let [requirements, environment, candidates] = lists;
+pub(crate) fn check(lists: [&[u8]; 3], extras: &[&str], format: Format) -> Result<String, Refused> {
+    let [list, environment, candidates] = lists;
     let extras = extra_lines(extras, EXTRAS_OF_LISTS)?;
-    let room = room_for_rows(requirements, 1);
-    asked!(
-        reqs_check,
-        room,
-        requirements,
-        environment,
-        candidates,
-        extras
-    )
-    .map(Answer::text)
+    let room = format.room_for_rows(list, 1);
+    let answer = match format {
+        Format::Text => asked!(reqs_check, room, list, environment, candidates, extras),
+        Format::Json => asked!(reqs_check_json, room, list, environment, candidates, extras),
+    };
+    answer.map(Answer::text)
 }
 
-pub(crate) fn matrix(lists: [&[u8]; 3], extras: &[&str], limit: u64) -> Result<String, Refused> {
-    let [requirements, environments, candidates] = lists;
+pub(crate) fn matrix(
+    lists: [&[u8]; 3],
+    extras: &[&str],
+    limit: u64,
+    format: Format,
+) -> Result<String, Refused> {
+    let [list, environments, candidates] = lists;
     let extras = extra_lines(extras, EXTRAS_OF_LISTS)?;
     // (an environment is an object)
     let count = environments.iter().filter(|it| **it == b'{').count();
-    let room = room_for_rows(requirements, count);
-    asked!(reqs_matrix, room, requirements, environments, candidates, extras; limit)
-        .map(Answer::text)
+    let room = format.room_for_rows(list, count);
+    let answer = match format {
+        Format::Text => {
+            asked!(reqs_matrix, room, list, environments, candidates, extras; limit)
+        }
+        Format::Json => {
+            asked!(reqs_matrix_json, room, list, environments, candidates, extras; limit)
+        }
+    };
+    answer.map(Answer::text)
 }
 
-pub(crate) fn same(left: &[u8], right: &[u8], limit: u64) -> Result<Answer, Refused> {
-    asked!(reqs_same, ROOM, left, right; limit)
+pub(crate) fn same(
+    left: &[u8],
+    right: &[u8],
+    limit: u64,
+    format: Format,
+) -> Result<Answer, Refused> {
+    match format {
+        Format::Text => asked!(reqs_same, ROOM, left, right; limit),
+        Format::Json => asked!(reqs_same_json, ROOM, left, right; limit),
+    }
 }
 
-pub(crate) fn conflicts(requirements: &[u8], limit: u64) -> Result<String, Refused> {
-    asked!(reqs_conflicts, room_for_rows(requirements, 1), requirements; limit).map(Answer::text)
+pub(crate) fn conflicts(
+    requirements: &[u8],
+    limit: u64,
+    format: Format,
+) -> Result<String, Refused> {
+    let room = format.room_for_rows(requirements, 1);
+    let answer = match format {
+        Format::Text => asked!(reqs_conflicts, room, requirements; limit),
+        Format::Json => asked!(reqs_conflicts_json, room, requirements; limit),
+    };
+    answer.map(Answer::text)
 }
 
-pub(crate) fn normal(requirements: &[u8]) -> Result<String, Refused> {
-    asked!(reqs_normal, room_for_rows(requirements, 1), requirements).map(Answer::text)
+pub(crate) fn normal(requirements: &[u8], format: Format) -> Result<String, Refused> {
+    let room = format.room_for_rows(requirements, 1);
+    let answer = match format {
+        Format::Text => asked!(reqs_normal, room, requirements),
+        Format::Json => asked!(reqs_normal_json, room, requirements),
+    };
+    answer.map(Answer::text)
 }
 
 #[cfg(test)]
@@ -404,9 +471,14 @@ mod tests {
         let environments = format!("[{}]", vec![ENVIRONMENT; 40].join(","));
         let lists = [lines.as_bytes(), environments.as_bytes(), b"foo1 1\n"];
         let again = asked_again(|| {
-            assert_eq!(conflicts(lists[0], 4096).unwrap().lines().count(), 100);
-            let rows = matrix(lists, &[], 4096).unwrap();
+            let found = conflicts(lists[0], 4096, Format::Text).unwrap();
+            assert_eq!(found.lines().count(), 100);
+            let rows = matrix(lists, &[], 4096, Format::Text).unwrap();
             assert_eq!(rows.lines().count(), 40 * 101);
+            let found = conflicts(lists[0], 4096, Format::Json).unwrap();
+            assert_eq!(found.matches("\"package\":").count(), 100);
+            let rows = matrix(lists, &[], 4096, Format::Json).unwrap();
+            assert_eq!(rows.matches("\"outcome\":").count(), 40 * 100);
         });
         assert_eq!(again, 0);
     }
@@ -459,10 +531,12 @@ mod tests {
                 start: 0,
                 len: 0,
             };
-            let checked = check(lists_in(ENVIRONMENT), &extras);
-            assert_eq!(checked, Err(refused(EXTRAS_OF_LISTS)));
-            let tabled = matrix(lists_in(&environments), &extras, 4096);
-            assert_eq!(tabled, Err(refused(EXTRAS_OF_LISTS)));
+            for format in [Format::Text, Format::Json] {
+                let checked = check(lists_in(ENVIRONMENT), &extras, format);
+                assert_eq!(checked, Err(refused(EXTRAS_OF_LISTS)));
+                let tabled = matrix(lists_in(&environments), &extras, 4096, format);
+                assert_eq!(tabled, Err(refused(EXTRAS_OF_LISTS)));
+            }
             let held = markers_hold("os_name == 'posix'", ENVIRONMENT, &extras);
             assert_eq!(held, Err(refused(EXTRAS_OF_MARKERS)));
         }

@@ -1,11 +1,12 @@
-//! Answers as values: they say what the commands print, and a table what each environment is answered.
+//! Answers as values: they say what the commands print as text and as JSON, and a table what each environment
+//! is answered.
 
 mod drawn;
 
-use drawn::Draws;
+use drawn::{escaped, Draws};
 use fowlyore::{
-    check, check_text, conflicts, conflicts_text, matrix, matrix_text, same, Conflict, Outcome,
-    Row, Same, LIMIT,
+    check, check_json, check_text, conflicts, conflicts_json, conflicts_text, matrix, matrix_json,
+    matrix_text, normal, normal_json, same, same_json, Conflict, Outcome, Row, Same, LIMIT,
 };
 use std::fmt::Display;
 
@@ -58,6 +59,45 @@ fn lines<Item: Display>(items: &[Item]) -> String {
     items.iter().map(|it| format!("{it}\n")).collect()
 }
 
+/// The text of a JSON array with what is written of each item.
+fn array<Item>(items: &[Item], write: impl Fn(&Item) -> String) -> String {
+    let items: Vec<String> = items.iter().map(write).collect();
+    format!("[{}]", items.join(","))
+}
+
+fn quoted(text: &str) -> String {
+    format!("\"{}\"", escaped(text))
+}
+
+fn row_object(row: &Row) -> String {
+    let extras = array(&row.extras, |it| quoted(it));
+    let (outcome, version) = match &row.outcome {
+        Outcome::None => ("none", "null".to_string()),
+        Outcome::Direct => ("direct", "null".to_string()),
+        Outcome::Version(version) => ("version", quoted(version.as_str())),
+    };
+    let name = quoted(&row.package);
+    format!(r#"{{"extras":{extras},"name":{name},"outcome":"{outcome}","version":{version}}}"#)
+}
+
+fn conflict_object(conflict: &Conflict) -> String {
+    let lines = array(&conflict.lines, usize::to_string);
+    let package = quoted(&conflict.package);
+    let prerelease = conflict.names_prerelease;
+    format!(r#"{{"lines":{lines},"package":{package},"prerelease":{prerelease}}}"#)
+}
+
+fn same_object(same: &Same) -> String {
+    match same {
+        Same::Yes => r#"{"same":true}"#.to_string(),
+        Same::No { package, marker } => {
+            let marker = marker.as_deref().map_or("null".to_string(), quoted);
+            let package = quoted(package);
+            format!(r#"{{"marker":{marker},"package":{package},"same":false}}"#)
+        }
+    }
+}
+
 #[test]
 fn rows_are_what_is_printed() {
     let mut draws = Draws::of(41);
@@ -73,6 +113,9 @@ fn rows_are_what_is_printed() {
         let rows = check(texts[0], texts[1], texts[2], &extras).unwrap();
         let text = check_text(texts[0], texts[1], texts[2], &extras).unwrap();
         assert_eq!(lines(&rows), text, "{list}");
+        let json = check_json(texts[0], texts[1], texts[2], &extras).unwrap();
+        let packages = array(&rows, row_object);
+        assert_eq!(json, format!("{{\"packages\":{packages}}}\n"), "{list}");
         for row in &rows {
             assert_eq!(row.to_string().parse().as_ref(), Ok(row));
             counts[match &row.outcome {
@@ -108,6 +151,13 @@ fn tables_are_what_each_environment_is_answered() {
             .collect();
         let text = matrix_text(texts[0], texts[1], texts[2], &extras, LIMIT).unwrap();
         assert_eq!(text, print);
+        let json = matrix_json(texts[0], texts[1], texts[2], &extras, LIMIT).unwrap();
+        let numbered: Vec<(usize, &Vec<Row>)> = (1..).zip(&wanted).collect();
+        let objects = array(&numbered, |(at, rows)| {
+            let packages = array(rows, row_object);
+            format!(r#"{{"number":{at},"packages":{packages}}}"#)
+        });
+        assert_eq!(json, format!("{{\"environments\":{objects}}}\n"));
         alike += usize::from(
             text.lines()
                 .filter(|it| ["env 1", "env 2", "env 3"].contains(it))
@@ -127,6 +177,9 @@ fn conflicts_are_what_is_printed() {
         let found = conflicts(list.as_bytes(), LIMIT).unwrap();
         let text = conflicts_text(list.as_bytes(), LIMIT).unwrap();
         assert_eq!(lines(&found), text, "{list}");
+        let json = conflicts_json(list.as_bytes(), LIMIT).unwrap();
+        let objects = array(&found, conflict_object);
+        assert_eq!(json, format!("{{\"conflicts\":{objects}}}\n"), "{list}");
         for it in &found {
             assert!(*it.lines.last().unwrap() <= list.lines().count());
             assert_eq!(it.to_string().parse::<Conflict>().as_ref(), Ok(it));
@@ -168,6 +221,8 @@ fn differences_have_their_package_and_place() {
             Ok(&found),
             "{left}, {right}"
         );
+        let json = same_json(left.as_bytes(), right.as_bytes(), LIMIT).unwrap();
+        assert_eq!(json, same_object(&found) + "\n", "{left}, {right}");
         counts[match &found {
             Same::Yes => 0,
             Same::No { marker: None, .. } => 1,
@@ -177,6 +232,52 @@ fn differences_have_their_package_and_place() {
         }] += 1;
     }
     assert!(counts.iter().all(|it| *it > 10), "{counts:?}");
+}
+
+/// A list without a normal form is refused alike as text and as JSON.
+#[test]
+fn normal_lines_are_those_of_the_text() {
+    let mut draws = Draws::of(45);
+    let mut counts = [0; 2];
+    for _ in 0..1500 {
+        let list = list(&mut draws, COMPARED);
+        let text = normal(list.as_bytes());
+        let wanted = text.as_ref().map(|it| {
+            let lines: Vec<&str> = it.lines().collect();
+            let requirements = array(&lines, |it| quoted(it));
+            format!("{{\"requirements\":{requirements}}}\n")
+        });
+        let json = normal_json(list.as_bytes());
+        assert_eq!(json.as_ref(), wanted.as_ref().map_err(|it| *it), "{list}");
+        counts[usize::from(json.is_err())] += 1;
+    }
+    assert!(counts.iter().all(|it| *it > 50), "{counts:?}");
+}
+
+#[test]
+fn refusals_are_the_same_as_json() {
+    let (list, none) = (b"foo>=1\nbar>>2\n", b"{}");
+    let pairs = [
+        (
+            check_json(list, none, b"", &[]),
+            check_text(list, none, b"", &[]),
+        ),
+        (
+            matrix_json(list, none, b"", &[], LIMIT),
+            matrix_text(list, none, b"", &[], LIMIT),
+        ),
+        (
+            same_json(list, b"", LIMIT),
+            same(list, b"", LIMIT).map(|it| it.to_string()),
+        ),
+        (conflicts_json(list, LIMIT), conflicts_text(list, LIMIT)),
+        (normal_json(list), normal(list)),
+    ];
+    for (json, text) in pairs {
+        assert_eq!(json, text);
+        let refused = json.unwrap_err();
+        assert_eq!((refused.input, refused.line, refused.start), (1, 2, 3));
+    }
 }
 
 #[test]

@@ -237,6 +237,7 @@ fn quoted(text: &str) -> String {
     }
 }
 
-fn escaped(text: &str) -> String {
+/// The text in JSON, without the quotes around it.
+pub fn escaped(text: &str) -> String {
     text.replace('\\', "\\\\").replace('"', "\\\"")
 }

@@ -1,5 +1,4 @@
 use Rattle.std.proofs.Common.{◌∙◌, ◌∷◌, [], Bor, ℕ, List, ap, map}
-use Rattle.reqs_json.specs.declared.format.Format.TheVariants as format
 use Rattle.reqs_answers.specs.Check.{ChecksAs, CheckRefuses}
 use Rattle.reqs_c_reply.specs.Lines.{filled_lines}
 use Rattle.reqs_c_lists.specs.Commands.{CommandEnds, check_names}
@@ -11,7 +10,7 @@ pub returns : goal.returns
 returns c =
     let inputs = c.args.requirements.now ∷ c.args.environment.now ∷ c.args.candidates.now ∷ [] in
     let text = c.in-Ok.ensures in
-    with_extras 4 (λ vars extras. CommandEnds (ChecksAs format.Text vars extras) (CheckRefuses vars extras) (IsToldAt check_names 4) inputs)
+    with_extras 4 (λ vars extras. CommandEnds (ChecksAs c.args.format vars extras) (CheckRefuses vars extras) (IsToldAt check_names 4) inputs)
     c.args.extras.now c.in-Ok-no_variables.vars _ _ text.is_text c.in-Ok-no_variables.ensures
     (ap (map (λ (e : Bor (List ℕ)). e.now)) c.deref.ensures.value ∙ c.in-Ok-filled_lines.ensures ∙ ap filled_lines text.text)
     c.checked_with.ensures

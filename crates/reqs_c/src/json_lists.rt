@@ -1,0 +1,103 @@
+//! Lists of requirements: the commands of `reqs`, whose answers are JSON.
+//!
+//! An answer is the JSON object that the command prints with `--format json`, on one line
+//! (`docs/COMMANDS.md`). A refusal is that of the call without `_json`: the reply has its place, so the
+//! message stays text.
+
+ghost use Rattle.reqs_c_reply.specs.Endings.{RepliesAs};
+ghost use Rattle.reqs_c_lists.specs.Commands.{CheckEnds, MatrixEnds, SameEnds, ConflictsEnd, NormalEnds};
+
+use reqs_c_reply::Reply;
+use reqs_json::Format;
+use std::alloc::Global;
+
+/// The JSON that `reqs check` prints for one environment with `--format json`. `extras` has one extra per
+/// line.
+#[unsafe(no_mangle)]
+pub extern "C" fn reqs_check_json(
+    alloc: Global,
+    requirements: &[u8],
+    environment: &[u8],
+    candidates: &[u8],
+    extras: &[u8],
+    out: &mut [u8],
+) -> Reply
+    ensures { RepliesAs
+        (CheckEnds Format.Json requirements.now environment.now candidates.now extras.now)
+        out.old out.new result }
+{
+    reqs_c_lists::check(
+        alloc,
+        requirements,
+        environment,
+        candidates,
+        extras,
+        Format::Json,
+        out,
+    )
+}
+
+/// The JSON that `reqs matrix` prints for many environments with `--format json`. `extras` has one extra per
+/// line, and no package may have more cases than `limit`.
+#[unsafe(no_mangle)]
+pub extern "C" fn reqs_matrix_json(
+    alloc: Global,
+    requirements: &[u8],
+    environments: &[u8],
+    candidates: &[u8],
+    extras: &[u8],
+    limit: u64,
+    out: &mut [u8],
+) -> Reply
+    ensures { RepliesAs
+        (MatrixEnds Format.Json limit requirements.now environments.now candidates.now extras.now)
+        out.old out.new result }
+{
+    reqs_c_lists::matrix(
+        alloc,
+        requirements,
+        environments,
+        candidates,
+        extras,
+        limit,
+        Format::Json,
+        out,
+    )
+}
+
+/// The JSON that `reqs same` prints on two lists with `--format json`. No package may have more cases than
+/// `limit`.
+#[unsafe(no_mangle)]
+pub extern "C" fn reqs_same_json(
+    alloc: Global,
+    left: &[u8],
+    right: &[u8],
+    limit: u64,
+    out: &mut [u8],
+) -> Reply
+    ensures { RepliesAs (SameEnds Format.Json limit left.now right.now) out.old out.new result }
+{
+    reqs_c_lists::same(alloc, left, right, limit, Format::Json, out)
+}
+
+/// The JSON that `reqs conflicts` prints on a list with `--format json`. No package may have more cases than
+/// `limit`.
+#[unsafe(no_mangle)]
+pub extern "C" fn reqs_conflicts_json(
+    alloc: Global,
+    requirements: &[u8],
+    limit: u64,
+    out: &mut [u8],
+) -> Reply
+    ensures { RepliesAs (ConflictsEnd Format.Json limit requirements.now) out.old out.new result }
+{
+    reqs_c_lists::conflicts(alloc, requirements, limit, Format::Json, out)
+}
+
+/// The JSON that `reqs normal` prints with `--format json`: the lines of the list's normal form.
+#[unsafe(no_mangle)]
+pub extern "C" fn reqs_normal_json(alloc: Global, requirements: &[u8], out: &mut [u8]) -> Reply
+    ensures { RepliesAs (NormalEnds Format.Json requirements.now) out.old out.new result }
+{
+    reqs_c_lists::normal(alloc, requirements, Format::Json, out)
+}
