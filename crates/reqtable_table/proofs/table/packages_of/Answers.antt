@@ -1,6 +1,6 @@
 use Rattle.std.proofs.Common.{◌≡◌, ◌∙◌, ◌++◌, ◌∷◌, [], map, length, refl, sym, ap, subst, append_assoc, rules}
 use Rattle.std.proofs.lemmas.List.{map-append}
-use Rattle.std.specs.List.{AllByRecursion}
+use Rattle.std.specs.List.{AllZip, AllByRecursion}
 use Rattle.std.specs.Vec.Iter.{into_iter_items}
 use Rattle.pep508_tree.proofs.Conjoining.{extends_on}
 use Rattle.reqtable_groups.specs.Given.{lines_in}
@@ -10,6 +10,20 @@ use Rattle.reqtable_table.proofs.Packages.{zip_pushed}
 use Rattle.reqtable_table.proofs.Firsts.{of_trees_on, packages_on, pushed_all, more_lines, at_most, so_far}
 use Rattle.reqtable_table.proofs.Firsts.{first_refused}
 use Rattle.reqtable_table.proofs.table.packages_of.Goals as goal
+
+pub loop-group-init : goal.loop-group-init
+loop-group-init c =
+    record {
+      keeps = search rules;
+      counts = search rules;
+      split = search rules;
+      done = tt;
+      left = search rules;
+      made =
+          subst (λ ps. AllZip (IsPackageOf c.args.limit c.args.interner.now.nodes) [] (map package_record ps))
+          (sym c.in_ok-packages.ensures.items) tt;
+      last = c.new-last.ensures c.args.interner.now.nodes;
+    }
 
 pub package_of-requires-clause-trees : goal.package_of-requires-clause-trees
 package_of-requires-clause-trees c =
