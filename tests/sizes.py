@@ -123,6 +123,9 @@ def cases(count):
     candidates = lines(f"p {it}" for it in range(count + 1))
     yield from check(requirements, candidates, "p 0\n" if names else "", extras=names)
     yield from same(requirements, lines(reversed(requirements.splitlines())))
+    if names:
+        all_apply = " and ".join(f"extra == '{it}'" for it in names)
+        yield from same(requirements, requirements.replace(f"!={count} ", f"!={count}.5 "), "p", all_apply)
     yield from conflicts(requirements, "")
 
 
