@@ -127,6 +127,13 @@ def cases(count):
         all_apply = " and ".join(f"extra == '{it}'" for it in names)
         yield from same(requirements, requirements.replace(f"!={count} ", f"!={count}.5 "), "p", all_apply)
     yield from conflicts(requirements, "")
+    # (a line in two parts, which make more cases than a line)
+    if 0 < count < 12:
+        one, *others = requirements.splitlines()
+        yield from same(requirements, lines([f"{one} and os_name == 'x'", f"{one} and os_name != 'x'", *others]))
+    # (each case of the one list holds together with each of the other)
+    if count < 11:
+        yield from same(*("p\n" + lines(f"p ; extra == '{of}{it}'" for it in range(count)) for of in "ef"))
 
 
 def candidates(count):

@@ -5,7 +5,7 @@
 //! of both sides' cases tells which pairs hold together, and only those are compared; but where very many do,
 //! all are compared, so that no long list is kept. A conjunction is made of the one pair that is reported.
 
-ghost use Rattle.std.specs.Prelude.{map, List, IfOk, IfSome, IsTrue};
+ghost use Rattle.std.specs.Prelude.{◌≡◌, map, List, IfOk, IfSome, IsTrue};
 ghost use Rattle.pep508_tree.specs.Meaning.{IsTree, NodeRecord};
 ghost use Rattle.pep508_cases.specs.Pairs.{AreMeeting};
 ghost use Rattle.reqtable_compare.specs.Seen.{summary_record};
