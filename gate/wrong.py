@@ -18,9 +18,10 @@ whose texts or edits aren't those of tests/wrong/judged.txt. Other edits are the
 edit of a definition, which is no function's, by a check of the whole crate. Without --gate what the store
 lacks of the libraries is proved first, and what passed of a whole crate is written into judged.txt.
 
-A verdict is kept in the store by the sum of all that it rests on, and what has one isn't tried again; with
---from-nothing none is taken. An edit that is refused has passed, and so has a control that is proved. The
-last line is `N passed, M failed`; the status is 0 where M is 0, and 2 where a name is no crate's.
+A verdict is kept in the store by the sum of all that it rests on, one on an edit and one on its control, and
+what has one isn't tried again; with --from-nothing none is taken. An edit that is refused has passed, and so
+has a control that is proved. The last line is `N passed, M failed`; the status is 0 where M is 0, and 2 where
+a name is no crate's.
 """
 
 import os
@@ -50,6 +51,9 @@ LOST = re.compile(r"has no field|is not in scope|has no `|was not admitted|\(nea
 TOLD = re.compile(r"^fn (\S+): (proved|not proved.*|no proof.*)$", re.M)
 # How a check tells that a function isn't proved.
 AT_A_VALUE, FOR_NAMES, WITHOUT_A_GOAL = "refused at a value", "refused for names", "refused without a goal"
+# What is tried of an edit, and the verdict where that passed.
+EDIT, CONTROL = "edit", "control"
+PASSED = {EDIT: "refused", CONTROL: "proved"}
 NOTES = {
     FOR_NAMES: "refused only since a proof file names what it took away: change a value and keep the names",
     WITHOUT_A_GOAL: "refused, and no goal is named: see why",
@@ -133,37 +137,35 @@ class Trial:
         self.prover, self.verdicts = prover, verdicts
         self.failing = set()
         self.passed = self.failed = self.taken = self.tried = self.checks = self.ended = 0
-        self.told, self.own_sums = {}, {}
+        self.own_sums, self.open = {}, {}
         self.turn, self.began = threading.RLock(), time.monotonic()
 
-    def key(self, edit):
-        """The name of an edit's verdict: the sum of all that it rests on."""
-        return f"{verdicts.of_edit(self.prover.crates, edit.crate.name, edit.content)}.edit"
-
-    def verdict(self, edit):
-        return "refused; control proved" if edit.control else "refused"
+    def key(self, edit, half):
+        """The name of the verdict on an edit or on its control: the sum of all that it rests on."""
+        return f"{verdicts.of_edit(self.prover.crates, edit.crate.name, edit.content)}.{half}"
 
     def take(self, edit):
-        """Says whether the store has an edit's verdict, and counts it then."""
+        """Takes the verdicts that the store has on an edit and on its control, and says whether it has both."""
         self.own_sums.setdefault(edit.crate.name, edit.crate.own_sum())
-        if self.verdicts.verdict(self.key(edit)) != self.verdict(edit):
-            return False
-        self.taken += 1
-        self.passed += len(edit.changes())
-        return True
+        halves = (EDIT, CONTROL)[: len(edit.changes())]
+        self.open[edit.label] = [it for it in halves if self.verdicts.verdict(self.key(edit, it)) != PASSED[it]]
+        self.passed += len(halves) - len(self.open[edit.label])
+        self.taken += not self.open[edit.label]
+        return not self.open[edit.label]
 
-    def record(self, edit, is_good, words=""):
-        """Counts what came of an edit or of its control, and keeps the verdict once both have passed."""
+    def is_open(self, edit, half):
+        """Says whether the store had no verdict on an edit or on its control."""
+        return half in self.open[edit.label]
+
+    def record(self, edit, half, is_good, words=""):
+        """Counts what came of an edit or of its control, and keeps the verdict where that has passed."""
         with self.turn:
             self.passed, self.failed = self.passed + is_good, self.failed + (not is_good)
             self.failing |= set() if is_good else {edit.crate.name}
             if words:
                 print(f"{'note' if is_good else 'FAILED'}: {edit.label}: {words}", flush=True)
-            told = self.told.setdefault(edit.label, [])
-            told.append(is_good and not words)
-            is_whole = len(told) == len(edit.changes()) and all(told)
-            if is_whole and edit.crate.own_sum() == self.own_sums[edit.crate.name]:
-                self.verdicts.keep_verdict(self.key(edit), self.verdict(edit))
+            elif is_good and edit.crate.own_sum() == self.own_sums[edit.crate.name]:
+                self.verdicts.keep_verdict(self.key(edit, half), PASSED[half])
 
     def check(self, crate, texts, changes):
         functions = sorted({at for it in changes for at in it.named})
@@ -175,9 +177,9 @@ class Trial:
         _, said = self.check(edits[0].crate, texts, [it.wrong for it in edits])
         for it in edits:
             if AT_A_VALUE in [refusal(at, said, it.crate.name) for at in it.wrong.functions]:
-                self.record(it, True)
+                self.record(it, EDIT, True)
             elif not it.may_be_alone:
-                self.record(it, False, not_refused(said))
+                self.record(it, EDIT, False, not_refused(said))
             elif len(edits) == 1:
                 self.judge_alone(it, said)
             else:
@@ -189,11 +191,11 @@ class Trial:
         unread = [it for it in said.split("\n") if self.prover.rt.unread(it, texts)]
         how = [it for it in (refusal(at, said, edit.crate.name) for at in edit.wrong.functions) if it]
         if unread:
-            self.record(edit, False, f"the prover cannot read the edited text: {unread[0][:200]}")
+            self.record(edit, EDIT, False, f"the prover cannot read the edited text: {unread[0][:200]}")
         elif how:
-            self.record(edit, True, "" if AT_A_VALUE in how else NOTES[how[0]])
+            self.record(edit, EDIT, True, "" if AT_A_VALUE in how else NOTES[how[0]])
         else:
-            self.record(edit, False, not_refused(said))
+            self.record(edit, EDIT, False, not_refused(said))
 
     def try_by_whole_check(self, edits, _texts):
         """Tries an edit that is no function's, as `rt must-fail` does."""
@@ -202,7 +204,7 @@ class Trial:
             kind, words = self.prover.rt.must_fail(crate, it.path, ["--jobs", "1"])
             is_refused = toolchain.is_refused(self.prover.rt, kind)
             note = "only because a proof file names" in words or words.endswith(": refused, as it must be")
-            self.record(it, is_refused, "" if is_refused and not note else words.partition(": ")[2])
+            self.record(it, EDIT, is_refused, "" if is_refused and not note else words.partition(": ")[2])
 
     def try_controls(self, edits, texts):
         crate = edits[0].crate
@@ -219,25 +221,25 @@ class Trial:
             proved = []
         for it in edits:
             if it in proved:
-                self.record(it, True)
+                self.record(it, CONTROL, True)
                 continue
             names = [name_told(at, told, crate.name) for at in it.control.named]
             errors = [error for name in names if name for error in errors_of(name, said)]
             why = (errors or [f"the last line is: {last_line(said)}"])[0][:300]
-            self.record(it, False, f"its control isn't proved, so the edit shows nothing: {why}")
+            self.record(it, CONTROL, False, f"its control isn't proved, so the edit shows nothing: {why}")
 
     def try_control_by_whole_check(self, edits, texts):
         status, said = self.check(edits[0].crate, texts, [])
         words = "" if status == 0 else f"its control isn't proved, so the edit shows nothing: {last_line(said)}"
-        self.record(edits[0], status == 0, words)
+        self.record(edits[0], CONTROL, status == 0, words)
 
-    def run_check(self, call, kind, edits, texts):
+    def run_check(self, call, half, kind, edits, texts):
         before, crate = time.monotonic(), edits[0].crate
         below = [it.name for it in self.prover.crates.below(crate.name)]
         lost = next((it for it in below if not self.prover.lay_out(it)), None)
         if lost:
             for it in edits:
-                self.record(it, False, f"not tried, since the library {lost} isn't in the store")
+                self.record(it, half, False, f"not tried, since the library {lost} isn't in the store")
         else:
             call(edits, texts)
         with self.turn:
@@ -249,21 +251,22 @@ class Trial:
             )
 
     def checks_of(self, edits):
-        """The checks in which a crate's edits are tried: how, what is tried, its edits and their texts."""
-        at_functions = [it for it in edits if None not in it.wrong.functions]
+        """The checks in which a crate's edits are tried: how, which half of them, what is tried, the edits and their texts."""
+        wrong = [it for it in edits if self.is_open(it, EDIT)]
+        at_functions = [it for it in wrong if None not in it.wrong.functions]
         for batch, texts in batches(at_functions, lambda it: it.wrong):
-            yield self.try_edits, "edits", batch, texts
-        controlled = [it for it in edits if it.control]
+            yield self.try_edits, EDIT, "edits", batch, texts
+        controlled = [it for it in edits if self.is_open(it, CONTROL)]
         for batch, texts in batches([it for it in controlled if it.control.named], lambda it: it.control):
-            yield self.try_controls, "controls", batch, texts
+            yield self.try_controls, CONTROL, "controls", batch, texts
         for it in controlled:
             if not it.control.named and it.may_be_alone:
-                yield self.try_control_by_whole_check, "controls of definitions", [it], it.control.over({})
-        for it in edits:
+                yield self.try_control_by_whole_check, CONTROL, "controls of definitions", [it], it.control.over({})
+        for it in wrong:
             if it not in at_functions and it.may_be_alone:
-                yield self.try_by_whole_check, "edits of definitions", [it], {}
+                yield self.try_by_whole_check, EDIT, "edits of definitions", [it], {}
             elif it not in at_functions:
-                self.record(it, False, "it changes no function, so the gate can't try it")
+                self.record(it, EDIT, False, "it changes no function, so the gate can't try it")
 
     def tasks(self, edits, waits_of=lambda crate: []):
         """The checks by which edits are tried, as tasks that wait for what a crate's wait for."""
@@ -272,7 +275,7 @@ class Trial:
         made = {}
         for crate in {it.crate.name: it.crate for it in edits}.values():
             for check in self.checks_of([it for it in edits if it.crate is crate]):
-                seconds = SECONDS + self.prover.loading(crate.name) + SECONDS_AN_EDIT * len(check[2])
+                seconds = SECONDS + self.prover.loading(crate.name) + SECONDS_AN_EDIT * len(check[3])
                 call = lambda _given, _jobs, check=check: self.run_check(*check)
                 made[crate.name, "edits", len(made)] = Task(waits_of(crate), seconds, crate.memory(), call, most_jobs=1)
         self.checks, self.tried = len(made), len(edits)
@@ -283,7 +286,7 @@ class Trial:
         left = []
         for it in edits:
             if it.why:
-                self.record(it, False, it.why)
+                self.record(it, EDIT, False, it.why)
             elif not self.take(it):
                 left.append(it)
         return left
