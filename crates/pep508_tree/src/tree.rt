@@ -88,9 +88,11 @@ impl MarkerTree {
     pub fn cmp_places(self, other: MarkerTree) -> Ordering
         ensures { result ≡ tree_cmp self other }
     {
-        self.place
-            .cmp(&other.place)
-            .then(self.negated.cmp(&other.negated))
+        match self.place.cmp(&other.place) {
+            Ordering::Less => Ordering::Less,
+            Ordering::Equal => self.negated.cmp(&other.negated),
+            Ordering::Greater => Ordering::Greater,
+        }
     }
 
     /// Returns whether this is the tree that always holds.

@@ -65,8 +65,14 @@ impl Ord for TreePair {
     ghost matches_eq = { λ x y. refl };
 
     fn cmp(&self, other: &TreePair) -> Ordering {
-        let firsts = self.first.cmp_places(other.first);
-        let trees = firsts.then(self.second.cmp_places(other.second));
-        self.places().cmp(&other.places()).then(trees)
+        match self.places().cmp(&other.places()) {
+            Ordering::Less => Ordering::Less,
+            Ordering::Equal => match self.first.cmp_places(other.first) {
+                Ordering::Less => Ordering::Less,
+                Ordering::Equal => self.second.cmp_places(other.second),
+                Ordering::Greater => Ordering::Greater,
+            },
+            Ordering::Greater => Ordering::Greater,
+        }
     }
 }
