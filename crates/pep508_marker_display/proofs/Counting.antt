@@ -1,5 +1,5 @@
 -- A walk over ends of paths, of which the clauses are counted.
-use Rattle.std.proofs.Common.{◌≡◌, ◌⊎◌, inl, inr, ℕ, suc, ◌+◌, ◌<◌, ◌≤◌, Bool, true, false, ◌||◌, List, [], ◌∷◌, ◌++◌}
+use Rattle.std.proofs.Common.{◌≡◌, ◌↔◌, ◌⊎◌, IsTrue, inl, inr, ℕ, suc, ◌+◌, ◌<◌, ◌≤◌, Bool, true, false, ◌||◌, List, [], ◌∷◌, ◌++◌}
 use Rattle.std.proofs.Common.{map, length, length-append, refl, sym, ap, ap₂, subst, ◌∙◌, true≢false, arith}
 use Rattle.std.proofs.lemmas.List.{length-map}
 use Rattle.std.proofs.lemmas.List.Elements.{filter-append}
@@ -59,9 +59,6 @@ always_or_not tree = elim (top_or_node tree.place) [
     by_sign true sign place = inr (λ is. true≢false (sym sign ∙ ap (λ (t : Tree). t.negated) is))
     by_sign false sign place = inl (tree_is tree always place sign)
 
-pub none_below : (n : ℕ) → n < 0 → ⊥
-none_below n less = absurd (omega arith)
-
 module _ (nodes : List NodeRecord) where
   abbrev clauses_at : Tree → List Clause
   clauses_at tree = clauses_of (diagram_of nodes tree)
@@ -92,9 +89,14 @@ module _ (nodes : List NodeRecord) where
   never_clauses tree is = ap clauses_of (ap (diagram_of nodes) is ∙ diagram_top nodes never refl)
 
   -- a constant has no clause with terms
-  pub constant_count : (tree : Tree) → (tree ≡ always) ⊎ (tree ≡ never) → clause_count (diagram_of nodes tree) ≡ 0
+  constant_count : (tree : Tree) → (tree ≡ always) ⊎ (tree ≡ never) → clause_count (diagram_of nodes tree) ≡ 0
   constant_count tree (inl is) = ap (number false) (always_clauses tree is)
   constant_count tree (inr is) = ap (number false) (never_clauses tree is)
+
+  pub none_more : (tree : Tree) (most : ℕ) → (tree ≡ always) ⊎ (tree ≡ never) →
+      IsTrue false ↔ (most < clause_count (diagram_of nodes tree))
+  none_more tree most is =
+      (λ e. absurd (true≢false (sym e)), λ less. absurd (omega (arith, less, constant_count tree is)))
 
   one_clause : (end : End) → end.tree ≡ always → end.has_terms ≡ true → number_at end ≡ 1
   one_clause end is some = ap₂ number some (always_clauses end.tree is)
@@ -150,8 +152,8 @@ module _ (nodes : List NodeRecord) where
 
     -- an end that is a clause
     module _ (is : end.tree ≡ always) (some : end.has_terms ≡ true) where
-      pub one_too_many : found ≡ most → most < whole
-      one_too_many full = omega (arith, counts_split, one_clause end is some)
+      pub one_too_many : found ≡ most → IsTrue true ↔ (most < whole)
+      one_too_many full = (λ e. omega (arith, counts_split, one_clause end is some, full), λ less. refl)
 
       pub count_found : (found ≡ most → ⊥) → IsCount whole most rest (found + 1)
       count_found other = record {

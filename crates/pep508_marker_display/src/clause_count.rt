@@ -23,19 +23,15 @@ pub(crate) struct End {
     has_terms: bool,
 }
 
-/// Returns whether a path that ends here is a clause.
-fn is_clause(end: End) -> bool
-    ensures { IsTrue result ↔ ((end.tree ≡ always) × (IsTrue end.has_terms)) }
+/// Returns whether a path to a tree is a clause.
+fn is_clause(tree: MarkerTree, has_terms: bool) -> bool
+    ensures { IsTrue result ↔ ((tree ≡ always) × (IsTrue has_terms)) }
 {
-    end.has_terms && end.tree.is_true()
+    has_terms && tree.is_true()
 }
 
 /// Adds the end of each path that goes on by one of these steps.
-fn add_ends(
-    waiting: &mut Vec<End>,
-    has_terms: bool,
-    steps: &[Step],
-) -> Result<(), AllocError>
+fn add_ends(waiting: &mut Vec<End>, has_terms: bool, steps: &[Step]) -> Result<(), AllocError>
     ensures { OnOk result (waiting.new.items
         ≡ waiting.old.items ++ ends_by has_terms (steps_shown steps.now)) }
 {
@@ -69,16 +65,25 @@ pub fn has_more_clauses(
         return Ok(false);
     }
     let mut found: usize = 0;
-    let mut waiting = vec![in alloc; End { tree, has_terms: false }]?;
+    let mut waiting = vec![in alloc;
+        End {
+            tree,
+            has_terms: false
+        },
+    ]?;
     while let Some(end) = waiting.pop() {
-        if is_clause(end) {
+        let End {
+            tree: at,
+            has_terms,
+        } = end;
+        if is_clause(at, has_terms) {
             if found == most {
                 return Ok(true);
             }
             found += 1;
         } else {
-            let steps = root_steps(alloc, end.tree, interner)?;
-            add_ends(&mut waiting, end.has_terms, &steps)?;
+            let steps = root_steps(alloc, at, interner)?;
+            add_ends(&mut waiting, has_terms, &steps)?;
         }
     }
     Ok(false)
