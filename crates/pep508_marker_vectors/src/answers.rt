@@ -10,7 +10,7 @@ use crate::question::{extras_from, text_at};
 use crate::reading::{expression, marker, unwarned, unwarned_expression};
 use crate::simplified::{present, within};
 use crate::stop::{Stop, Told, said};
-use crate::texts::{clauses, text_after, text_in, top_extra};
+use crate::texts::{clause_count, clauses, text_after, text_in, top_extra};
 use crate::views::view;
 use crate::{comparisons, members, shown};
 use pep508_tree::Interner;
@@ -122,6 +122,7 @@ fn on_one(
         "top extra" => top_extra(alloc, answer, interner, text),
         "asked" => asked_of(alloc, answer, interner, text),
         "clauses" => clauses(alloc, answer, interner, text),
+        "clause count" => clause_count(alloc, answer, interner, text),
         "print" => shown::print(alloc, answer, interner, text),
         "print in part" => shown::print_in_part(alloc, answer, interner, text),
         "value" => shown::value(alloc, answer, interner, text),

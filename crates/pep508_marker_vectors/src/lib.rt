@@ -56,6 +56,8 @@
 //! - `["text", TEXT]`, `["text after", EARLIER, TEXT]`: the print of the marker's tree, or `no text`; the
 //!   same where another marker was read before it
 //! - `["clauses", TEXT]`: its clauses, each in brackets, with `;` between their comparisons
+//! - `["clause count", TEXT]`: how many clauses it has before they are simplified, or `many` where it has
+//!   more than 8
 //! - `["top extra", TEXT]`: the comparison of the extra that all clauses ask for, or `none`
 //! - `["asked", TEXT]`: of what kinds the questions of the marker's tree are: `quote` (a text has a single
 //!   quote), `old` (a key is an old name), `bound` (a version is more than a release of epoch 0), several of

@@ -3,9 +3,9 @@
 ghost use Rattle.pep508_tree.specs.Meaning.{IsTree};
 
 use crate::reading::read;
-use crate::stop::{Told, answered, put_or};
+use crate::stop::{Told, answered, put_or, said};
 use pep508_marker::MarkerExpression;
-use pep508_marker_display::MarkerTreeText;
+use pep508_marker_display::{MarkerTreeText, has_more_clauses};
 use pep508_tree::{Interner, MarkerTree};
 use std::alloc::{AllocError, Global};
 use std::fmt::Write;
@@ -39,6 +39,23 @@ pub fn text_of(alloc: Global, answer: &mut String, interner: &Interner, tree: Ma
 pub fn top_extra(alloc: Global, answer: &mut String, interner: &mut Interner, text: &str) -> Told {
     let tree = read(alloc, answer, interner, text)?;
     put_or(answer, tree.top_level_extra(alloc, interner), "none")
+}
+
+/// Answers with the number of a marker's clauses before they are simplified; `many` where there are more
+/// than 8.
+pub fn clause_count(
+    alloc: Global,
+    answer: &mut String,
+    interner: &mut Interner,
+    text: &str,
+) -> Told {
+    let tree = read(alloc, answer, interner, text)?;
+    for most in 0..9 {
+        if !has_more_clauses(alloc, tree, interner, most)? {
+            return answered(write!(answer, "{most}"));
+        }
+    }
+    said(answer, "many")
 }
 
 /// Answers with the clauses of a marker, each in brackets.

@@ -68,6 +68,7 @@ pub use Rattle.pep508_marker_text_laws.specs.Raisable
 pub use Rattle.pep508_marker_text_laws.specs.MarkerText as MarkerPrint
 pub use Rattle.pep508_marker_display.specs.Said
 pub use Rattle.pep508_marker_display.specs.TopExtra
+pub use Rattle.pep508_marker_display.specs.Counted
 pub use Rattle.pep508_tree_ref.specs.TreeOrder
 pub use Rattle.pep508_tree_ref.specs.TreeIn
 pub use Rattle.pep508_tree_ref.specs.TreeOrderLaws

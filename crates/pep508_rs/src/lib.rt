@@ -39,7 +39,7 @@ pub use pep508_marker::{
     MarkerValueExtra, MarkerValueString, MarkerValueVersion, MarkerWarningKind, Reporter, Silent,
     TracingReporter,
 };
-pub use pep508_marker_display::MarkerTreeText;
+pub use pep508_marker_display::{MarkerTreeText, has_more_clauses};
 pub use pep508_marker_key::MarkerTreeKey;
 pub use pep508_marker_parser::{MarkerTreeReading, parse_formula, tree_of};
 pub use pep508_marker_serde::{MarkerTreeContents, MarkerTreeWithContents, ser};

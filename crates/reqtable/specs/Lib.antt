@@ -21,6 +21,7 @@ pub use Rattle.reqtable_requirements.specs.LineText
 pub use Rattle.reqtable_requirements.specs.ReadLines
 pub use Rattle.reqtable_requirements.specs.Requirements
 pub use Rattle.reqtable_normal.specs.Normalized
+pub use Rattle.reqtable_normal.specs.Bounded
 pub use Rattle.reqtable_normal.specs.Errors as NormalErrors
 pub use Rattle.reqtable_normal.specs.Meant
 pub use Rattle.pep508_cases.specs.Cases as Marks

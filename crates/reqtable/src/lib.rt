@@ -61,6 +61,6 @@ pub use reqtable_candidates::{
 };
 pub use reqtable_compare::{LineCause, Same, SameError, Side, same};
 pub use reqtable_conflicts::{Conflict, conflicts};
-pub use reqtable_normal::{NormalCause, NormalError, normal};
+pub use reqtable_normal::{NormalCause, NormalError, normal, normal_within};
 pub use reqtable_requirements::{Line, MarkedLine, MarkedLines, Requirements, RequirementsError};
 pub use reqtable_table::{Case, Runs, Table, TableError};

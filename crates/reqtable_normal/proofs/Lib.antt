@@ -7,3 +7,4 @@ pub mod Standing
 pub mod Alike
 pub mod Answers
 pub mod Pushing
+pub mod Unbounded

@@ -24,11 +24,11 @@ use Rattle.reqtable_answer.specs.Says.{SaysSource, wanted_seen}
 use Rattle.reqtable_requirements.specs.LineReading.{LineRecord}
 use Rattle.reqtable_requirements.specs.Requirements.{ReadsUrl, StandsFor}
 use Rattle.reqtable_requirements.specs.declared.requirements.Line.{Line}
-use Rattle.reqtable_normal.specs.Normalized.{NormalLine, IsNormalOf, IsFirstFault, IsNormalText}
-use Rattle.reqtable_normal.specs.Normalized.{Normalizes}
+use Rattle.reqtable_normal.specs.Normalized.{NormalLine, IsNormalOf, IsNormalText}
 use Rattle.reqtable_normal.specs.Normalized.{normal_fault, never_holds, line_text, lines_text, kept}
-use Rattle.reqtable_normal.specs.Seen.{line_normal, PushesLine}
-use Rattle.reqtable_normal.specs.declared.error.NormalCause.{NormalCause}
+use Rattle.reqtable_normal.specs.Seen.{line_normal, error_of, PushesLine}
+use Rattle.reqtable_normal.specs.Bounded.{line_error, IsPrintable, IsFirstError, NormalizesWithin}
+use Rattle.reqtable_normal.proofs.Unbounded.{no_fault}
 use Rattle.reqtable_normal.specs.declared.error.NormalError.{NormalError}
 use Rattle.reqtable_normal.specs.declared.error.NormalError.TheVariants as errors
 
@@ -61,28 +61,25 @@ module _ (nodes : List NodeRecord) where
   abbrev pub normals : List Line → List NormalLine
   normals lines = map (line_normal nodes) lines
 
-  -- the text is that of these lines, none of which has a fault
-  pub record AreWritten (lines : List Line) (text : List ℕ) : Type 0 where
-    pub faultless : AllByRecursion (λ line. normal_fault line ≡ None) (normals lines)
+  -- the text is that of these lines, all of which are printable
+  pub record AreWritten (most : Option ℕ) (lines : List Line) (text : List ℕ) : Type 0 where
+    pub printable : AllByRecursion (λ line. error_of most nodes line ≡ None) lines
     pub is_text : text ≡ lines_text (normals lines)
-
-  pub none_written : AreWritten [] []
-  none_written = record { faultless = tt; is_text = refl }
 
   module _ (lines : List Line) (i : ℕ) (line : Line) (below : i < length lines)
       (is : line ≡ get_or lines i line) where
-    more : normals (take (i + 1) lines) ≡ normals (take i lines) ++ line_normal nodes line ∷ []
-    more =
-        ap normals (take_more lines i line below ∙ ap (λ l. take i lines ++ l ∷ []) (sym is))
-        ∙ map-append (line_normal nodes) (take i lines) (line ∷ [])
+    one_taken : take (i + 1) lines ≡ take i lines ++ line ∷ []
+    one_taken = take_more lines i line below ∙ ap (λ l. take i lines ++ l ∷ []) (sym is)
 
-    pub one_more : (old new : List ℕ) → AreWritten (take i lines) old →
-        normal_fault (line_normal nodes line) ≡ None →
-        new ≡ old ++ lines_text (line_normal nodes line ∷ []) → AreWritten (take (i + 1) lines) new
-    one_more old new h none e = record {
-      faultless = subst (AllByRecursion (λ line. normal_fault line ≡ None)) (sym more)
-          (all_append (λ line. normal_fault line ≡ None) (normals (take i lines))
-          (line_normal nodes line ∷ []) h.faultless (none, tt));
+    more : normals (take (i + 1) lines) ≡ normals (take i lines) ++ line_normal nodes line ∷ []
+    more = ap normals one_taken ∙ map-append (line_normal nodes) (take i lines) (line ∷ [])
+
+    pub one_more : (most : Option ℕ) (old new : List ℕ) → AreWritten most (take i lines) old →
+        error_of most nodes line ≡ None →
+        new ≡ old ++ lines_text (line_normal nodes line ∷ []) → AreWritten most (take (i + 1) lines) new
+    one_more most old new h none e = record {
+      printable = subst (AllByRecursion (λ line. error_of most nodes line ≡ None)) (sym one_taken)
+          (all_append (λ line. error_of most nodes line ≡ None) (take i lines) (line ∷ []) h.printable (none, tt));
       is_text = e ∙ ap (λ t. t ++ lines_text (line_normal nodes line ∷ [])) h.is_text
           ∙ sym (text_more (normals (take i lines)) (line_normal nodes line ∷ [])) ∙ ap lines_text (sym more);
     }
@@ -118,76 +115,97 @@ module _ (nodes : List NodeRecord) where
     all_normal (line ∷ lines) [] h = absurd h
     all_normal (line ∷ lines) (s ∷ said) h = (one_normal line s h.0, all_normal lines said h.1)
 
-    pub whole_text : (lines : List Line) (said : List LineRecord) (text : List ℕ) → AreWritten lines text →
-        AllZip (StandsFor vars nodes) lines said → IsNormalText said text
-    whole_text lines said text h stand = record {
-      lines = normals lines;
-      are_normal = all_normal lines said stand;
-      faultless = h.faultless;
-      is_text = h.is_text;
+    one_printable : (most : Option ℕ) (line : Line) (said : LineRecord) → StandsFor vars nodes line said →
+        error_of most nodes line ≡ None → IsPrintable most said
+    one_printable most line said h none = record {
+      normal = line_normal nodes line;
+      is_normal = one_normal line said h;
+      no_error = ap (λ number. line_error most number (line_normal nodes line)) (sym h.number) ∙ none;
     }
 
-    -- records of which the lines in front have none
-    fault_behind : (front : List Line) (line : Line) (back : List Line) (said : List LineRecord) (number : ℕ)
-        (cause : NormalCause) → AllByRecursion (λ line. normal_fault line ≡ None) (normals front) →
-        number ≡ line.number → normal_fault (line_normal nodes line) ≡ Some cause →
-        AllZip (StandsFor vars nodes) (front ++ line ∷ back) said → IsFirstFault said number cause
-    fault_behind [] line back [] number cause none e fault stand = absurd stand
-    fault_behind [] line back (s ∷ said) number cause none e fault stand = record {
+    all_printable : (most : Option ℕ) (lines : List Line) (said : List LineRecord) →
+        AllZip (StandsFor vars nodes) lines said →
+        AllByRecursion (λ line. error_of most nodes line ≡ None) lines → AllByRecursion (IsPrintable most) said
+    all_printable most [] [] h none = tt
+    all_printable most [] (s ∷ said) h none = absurd h
+    all_printable most (line ∷ lines) [] h none = absurd h
+    all_printable most (line ∷ lines) (s ∷ said) h none =
+        (one_printable most line s h.0 none.0, all_printable most lines said h.1 none.1)
+
+    all_faultless : (most : Option ℕ) (lines : List Line) →
+        AllByRecursion (λ line. error_of most nodes line ≡ None) lines →
+        AllByRecursion (λ line. normal_fault line ≡ None) (normals lines)
+    all_faultless most [] none = tt
+    all_faultless most (line ∷ lines) none =
+        (no_fault most line.number (line_normal nodes line) none.0, all_faultless most lines none.1)
+
+    pub whole_text : (most : Option ℕ) (lines : List Line) (said : List LineRecord) (text : List ℕ) →
+        AreWritten most lines text → AllZip (StandsFor vars nodes) lines said →
+        AllByRecursion (IsPrintable most) said × IsNormalText said text
+    whole_text most lines said text h stand = (
+      all_printable most lines said stand h.printable,
+      record {
+        lines = normals lines;
+        are_normal = all_normal lines said stand;
+        faultless = all_faultless most lines h.printable;
+        is_text = h.is_text;
+      },
+    )
+
+    -- records of which the lines in front are printable
+    error_behind : (most : Option ℕ) (front : List Line) (line : Line) (back : List Line) (said : List LineRecord)
+        (error : NormalError) → AllByRecursion (λ line. error_of most nodes line ≡ None) front →
+        error_of most nodes line ≡ Some error → AllZip (StandsFor vars nodes) (front ++ line ∷ back) said →
+        IsFirstError most said error
+    error_behind most [] line back [] error none is stand = absurd stand
+    error_behind most [] line back (s ∷ said) error none is stand = record {
       front = [];
       line = s;
       back = said;
       normal = line_normal nodes line;
       split = refl;
       before = tt;
-      numbered = e ∙ stand.0.number;
       is_normal = one_normal line s stand.0;
-      is_fault = fault;
+      is_error =
+          ap (λ number. line_error most number (line_normal nodes line)) (sym stand.0.number) ∙ is;
     }
-    fault_behind (first ∷ front) line back [] number cause none e fault stand = absurd stand
-    fault_behind (first ∷ front) line back (s ∷ said) number cause none e fault stand =
-        let rest = fault_behind front line back said number cause none.1 e fault stand.1 in
+    error_behind most (first ∷ front) line back [] error none is stand = absurd stand
+    error_behind most (first ∷ front) line back (s ∷ said) error none is stand =
+        let rest = error_behind most front line back said error none.1 is stand.1 in
         record {
           front = s ∷ rest.front;
           line = rest.line;
           back = rest.back;
           normal = rest.normal;
           split = ap (λ ls. s ∷ ls) rest.split;
-          before = (
-            record {
-              normal = line_normal nodes first;
-              is_normal = one_normal first s stand.0;
-              no_fault = none.0;
-            },
-            rest.before,
-          );
-          numbered = rest.numbered;
+          before = (one_printable most first s stand.0 none.0, rest.before);
           is_normal = rest.is_normal;
-          is_fault = rest.is_fault;
+          is_error = rest.is_error;
         }
 
-    pub first_fault : (lines : List Line) (i : ℕ) (line : Line) → i < length lines →
-        line ≡ get_or lines i line → (old : List ℕ) → AreWritten (take i lines) old →
-        (number : ℕ) (cause : NormalCause) →
-        number ≡ line.number → normal_fault (line_normal nodes line) ≡ Some cause → (said : List LineRecord) →
-        AllZip (StandsFor vars nodes) lines said → IsFirstFault said number cause
-    first_fault lines i line below is old h number cause e fault said stand =
-        fault_behind (take i lines) line (drop (suc i) lines) said number cause h.faultless e fault
+    first_error : (most : Option ℕ) (lines : List Line) (i : ℕ) (line : Line) → i < length lines →
+        line ≡ get_or lines i line → (old : List ℕ) → AreWritten most (take i lines) old →
+        (error : NormalError) → error_of most nodes line ≡ Some error → (said : List LineRecord) →
+        AllZip (StandsFor vars nodes) lines said → IsFirstError most said error
+    first_error most lines i line below is old h error e said stand =
+        error_behind most (take i lines) line (drop (suc i) lines) said error h.printable e
         (subst (λ ls. AllZip (StandsFor vars nodes) ls said) (split lines i line below is) stand)
 
     -- so is the refusal of all lines for that of one
-    pub refused : (X Y : Type 0) (lines : List Line) (i : ℕ) (line : Line) → i < length lines →
-        line ≡ get_or lines i line → (old new : List ℕ) → AreWritten (take i lines) old →
+    pub refused : (X Y : Type 0) (most : Option ℕ) (lines : List Line) (i : ℕ) (line : Line) → i < length lines →
+        line ≡ get_or lines i line → (old new : List ℕ) → AreWritten most (take i lines) old →
         (error : NormalError) →
-        PushesLine {X = X} nodes line old new (Err error) → (said : List LineRecord) →
-        AllZip (StandsFor vars nodes) lines said → Normalizes {Y = Y} said (Err error)
-    refused X Y lines i line below is old new h (errors.Line number cause) e said stand =
-        first_fault lines i line below is old h number cause e.0 e.1 said stand
-    refused X Y lines i line below is old new h errors.Memory e said stand = tt
+        PushesLine {X = X} most nodes line old new (Err error) → (said : List LineRecord) →
+        AllZip (StandsFor vars nodes) lines said → NormalizesWithin {Y = Y} most said (Err error)
+    refused X Y most lines i line below is old new h (errors.Line number cause) e said stand =
+        first_error most lines i line below is old h (errors.Line number cause) e said stand
+    refused X Y most lines i line below is old new h (errors.TooManyClauses number) e said stand =
+        first_error most lines i line below is old h (errors.TooManyClauses number) e said stand
+    refused X Y most lines i line below is old new h errors.Memory e said stand = tt
 
-pub passed_on : {Y : Type 0} (said : List LineRecord) (result : Result (String Y) NormalError)
-    (error : NormalError) → IsErrAnd result (λ e. e ≡ error) → Normalizes {Y = Y} said (Err error) →
-    Normalizes said result
-passed_on said (Ok text) error h is = absurd h
-passed_on {Y = Y} said (Err e) error h is =
-    let P : NormalError → Type 0 = λ e. Normalizes {Y = Y} said (Err e) in subst P (sym h) is
+pub passed_on : {Y : Type 0} (most : Option ℕ) (said : List LineRecord) (result : Result (String Y) NormalError)
+    (error : NormalError) → IsErrAnd result (λ e. e ≡ error) → NormalizesWithin {Y = Y} most said (Err error) →
+    NormalizesWithin most said result
+passed_on most said (Ok text) error h is = absurd h
+passed_on {Y = Y} most said (Err e) error h is =
+    let P : NormalError → Type 0 = λ e. NormalizesWithin {Y = Y} most said (Err e) in subst P (sym h) is

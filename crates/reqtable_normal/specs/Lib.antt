@@ -1,4 +1,5 @@
 pub mod Normalized
+pub mod Bounded
 pub mod Errors
 pub mod Seen
 pub mod Meant

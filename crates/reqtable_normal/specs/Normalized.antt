@@ -19,7 +19,7 @@ use Rattle.reqtable_requirements.specs.LineReading.{LineRecord}
 use Rattle.reqtable_normal.specs.declared.error.NormalCause.{NormalCause}
 use Rattle.reqtable_normal.specs.declared.error.NormalCause.TheVariants as cause
 use Rattle.reqtable_normal.specs.declared.error.NormalError.{NormalError}
-use Rattle.reqtable_normal.specs.declared.error.NormalError.TheVariants.{Line, Memory}
+use Rattle.reqtable_normal.specs.declared.error.NormalError.TheVariants.{Line, TooManyClauses, Memory}
 
 -- ---- the record of a line
 
@@ -97,4 +97,5 @@ pub record IsNormalText (said : List LineRecord) (text : List ℕ) : Type 0 wher
 abbrev pub Normalizes : {Y : Type 0} → List LineRecord → Result (String Y) NormalError → Type 0
 Normalizes said (Ok text) = IsNormalText said (string_bytes text)
 Normalizes said (Err (Line number fault)) = IsFirstFault said number fault
+Normalizes said (Err (TooManyClauses number)) = ⊥
 Normalizes said (Err Memory) = Unit {0}

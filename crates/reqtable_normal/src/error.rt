@@ -51,6 +51,8 @@ impl fmt::Display for NormalCause {
 pub enum NormalError {
     /// The first line, by its number from 1, that has no normal text.
     Line { number: usize, cause: NormalCause },
+    /// The first line, by its number from 1, whose marker has more clauses than a bound allows.
+    TooManyClauses { number: usize },
     /// Memory ran out.
     Memory,
 }
@@ -74,6 +76,7 @@ impl fmt::Display for NormalError {
     fn fmt<W: fmt::Write>(&self, f: &mut fmt::Formatter<W>) -> fmt::Result {
         match self {
             NormalError::Line { number, cause } => write!(f, "line {number}: {cause}"),
+            NormalError::TooManyClauses { number } => write!(f, "line {number}: too many clauses"),
             NormalError::Memory => write!(f, "out of memory"),
         }
     }

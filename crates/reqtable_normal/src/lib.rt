@@ -6,4 +6,4 @@ pub mod laws;
 mod lines;
 
 pub use error::{NormalCause, NormalError};
-pub use lines::normal;
+pub use lines::{normal, normal_within};

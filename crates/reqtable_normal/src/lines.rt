@@ -19,8 +19,10 @@ ghost use Rattle.reqtable_requirements.specs.Requirements.{StandsFor};
 ghost use Rattle.reqtable_normal.specs.Normalized.{Normalizes, line_text, marker_fault, never_holds};
 ghost use Rattle.reqtable_normal.specs.Normalized.{normal_fault};
 ghost use Rattle.reqtable_normal.specs.Seen.{PushesLine, normal_of};
+ghost use Rattle.reqtable_normal.specs.Bounded.{NormalizesWithin, exceeds};
 
 use crate::error::{NormalCause, NormalError};
+use pep508_marker_display::has_more_clauses;
 use pep508_questions::{Asked, MarkerTreeQuestions};
 use pep508_requirement::{Requirement, VersionOrUrl};
 use pep508_requirement_ref::RequirementRef;
@@ -53,10 +55,50 @@ pub fn normal(
     ensures { (vars : Variables) (said : List LineRecord) →
         AllZip (StandsFor vars interner.now.nodes) requirements.now said → Normalizes said result }
 {
+    normal_text(alloc, requirements, interner, None)
+}
+
+/// The normal text of a requirement list, as `normal` gives it, if no line's marker has more than
+/// `most_clauses` clauses: as many comparisons joined by `and` as are printed with `or` between them, before
+/// needless ones are left out. A marker of n terms can have 2^n clauses and as long a text.
+///
+/// Counts each line's clauses before any of them is made, and goes no further than one clause too many.
+///
+/// # Errors
+///
+/// The error of the first line that can't be printed: `NormalError::Line` if it has no normal text, as `normal`
+/// says, and otherwise `NormalError::TooManyClauses` if its marker has more clauses. `NormalError::Memory` when
+/// memory runs out.
+pub fn normal_within(
+    alloc: Global,
+    requirements: &Requirements,
+    interner: &Interner,
+    most_clauses: usize,
+) -> Result<String, NormalError>
+    requires { AreOfNodes interner.now.nodes requirements.now }
+    ensures { (vars : Variables) (said : List LineRecord) →
+        AllZip (StandsFor vars interner.now.nodes) requirements.now said →
+        NormalizesWithin (Some most_clauses) said result }
+{
+    normal_text(alloc, requirements, interner, Some(most_clauses))
+}
+
+/// The normal text of a list whose markers have at most so many clauses, if there is a bound.
+fn normal_text(
+    alloc: Global,
+    requirements: &Requirements,
+    interner: &Interner,
+    most_clauses: Option<usize>,
+) -> Result<String, NormalError>
+    requires { AreOfNodes interner.now.nodes requirements.now }
+    ensures { (vars : Variables) (said : List LineRecord) →
+        AllZip (StandsFor vars interner.now.nodes) requirements.now said →
+        NormalizesWithin most_clauses said result }
+{
     interner.are_sound();
     let mut text = String::new(alloc);
     for line in requirements.lines() {
-        push_line(alloc, &mut text, line, interner)?;
+        push_line(alloc, &mut text, line, interner, most_clauses)?;
     }
     Ok(text)
 }
@@ -68,19 +110,40 @@ fn push_line(
     text: &mut String,
     line: &Line,
     interner: &Interner,
+    most_clauses: Option<usize>,
 ) -> Result<(), NormalError>
     requires { IsTree interner.now.nodes line.now.requirement.marker }
-    ensures { PushesLine interner.now.nodes line.now (string_bytes text.old) (string_bytes text.new) result }
+    ensures { PushesLine most_clauses interner.now.nodes line.now
+        (string_bytes text.old) (string_bytes text.new) result }
 {
     let requirement = &line.requirement;
+    let number = line.number;
     if let Some(cause) = fault(alloc, requirement, interner)? {
-        let number = line.number;
         return Err(NormalError::Line { number, cause });
+    }
+    if exceeds(alloc, requirement.marker, interner, most_clauses)? {
+        return Err(NormalError::TooManyClauses { number });
     }
     if !never_holds(requirement.marker, interner) {
         push_requirement(alloc, text, requirement, interner)?;
     }
     Ok(())
+}
+
+/// Whether a marker has more clauses than a bound allows, if there is one.
+fn exceeds(
+    alloc: Global,
+    marker: MarkerTree,
+    interner: &Interner,
+    most_clauses: Option<usize>,
+) -> Result<bool, AllocError>
+    requires { IsTree interner.now.nodes marker }
+    ensures { IfOk result (λ more. more ≡ exceeds most_clauses (diagram_of interner.now.nodes marker)) }
+{
+    match most_clauses {
+        None => Ok(false),
+        Some(most) => has_more_clauses(alloc, marker, interner, most),
+    }
 }
 
 /// Whether a marker never holds.
