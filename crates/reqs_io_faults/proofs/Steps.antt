@@ -17,6 +17,7 @@ use Rattle.reqtable_requirements.specs.declared.requirements.RequirementsError.T
 use Rattle.reqtable_candidates.specs.TextLines.{text_lines}
 use Rattle.reqs_io_faults.specs.declared.fault.RunFault.{RunFault}
 use Rattle.reqs_io_faults.specs.declared.fault.RunFault.TheVariants.{Read, Write, Memory, TooLong, Requirement}
+use Rattle.reqs_io_faults.specs.declared.fault.RunFault.TheVariants.{TooMany}
 use Rattle.reqs_io_faults.specs.declared.fault.Input.{Input}
 use Rattle.reqs_io_faults.specs.declared.fault.Input.TheVariants.{First, Second, Third}
 use Rattle.reqs_io_faults.specs.declared.fault.Status.{Status}
@@ -49,6 +50,7 @@ requirements_refuse vars input bytes (requirements.Line number error) reading h 
     ((refl, said), ap (with_cause (requirements_cause input)) h)
 requirements_refuse vars input bytes (requirements.NumberAtEnd number) reading h said =
     (tt, ap (with_cause (requirements_cause input)) h)
+requirements_refuse vars input bytes (requirements.TooManyNodes number most) reading h said = absurd said
 requirements_refuse vars input bytes requirements.Memory reading h said = (tt, tt)
 
 is_of_texts : (vars : Variables) (list : Input) (bytes : List ℕ) (fault : RunFault) → IsPlain fault
@@ -106,6 +108,7 @@ module _ {W : Type 0} (Answers : Answering) (Refused : Refusing) (contents : W �
   refused MaySay inputs (TooLong input) h within r = absurd h
   refused MaySay inputs Write h within r = absurd h
   refused MaySay inputs Memory h within r = tt
+  refused MaySay inputs (TooMany excess) h within r = absurd h
   refused MaySay inputs fault h within r = (within, r)
 
   -- a command of which one input is not read, whatever inputs stand behind it

@@ -55,6 +55,7 @@ module _ (vars : Variables) (texts : List (ℕ × List ℕ)) (lines : List Marke
   error_in all back (errors.Line number error) e t h =
       (texts, text.1, back, e ∙ ap (λ n. texts ++ (n, text.1) ∷ back) (sym h.0), h.1)
   error_in all back (errors.NumberAtEnd number) e t h = tt
+  error_in all back (errors.TooManyNodes number most) e t h = absurd h
   error_in all back errors.Memory e t h = tt
 
   -- the next line is refused
