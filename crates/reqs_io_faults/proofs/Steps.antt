@@ -22,7 +22,7 @@ use Rattle.reqs_io_faults.specs.declared.fault.Input.{Input}
 use Rattle.reqs_io_faults.specs.declared.fault.Input.TheVariants.{First, Second, Third}
 use Rattle.reqs_io_faults.specs.declared.fault.Status.{Status}
 use Rattle.reqs_io_faults.specs.Faults.{Cause, Says, told_run, of_requirements, of_candidates, requirements_cause}
-use Rattle.reqs_io_faults.specs.Faults.{Refuses, IsOfInputs, IsPlain, IsOfTexts}
+use Rattle.reqs_io_faults.specs.Faults.{Refuses, IsOfInputs, IsExcess, IsPlain, IsOfTexts}
 use Rattle.reqs_io_faults.specs.Inputs.{◌>>=◌, with_cause, IsWithin, ReadsInput}
 use Rattle.reqs_io_faults.specs.Ends.{Answering, Refusing, AreWithin, place_of, of_input, EndsAs, Runs}
 use Rattle.reqs_io_faults.specs.Ends.{WritesAnswer}
@@ -156,6 +156,13 @@ module _ {W : Type 0} (Answers : Answering) (Refused : Refusing) (contents : W �
         → Runs Answers Refused told contents old new (Err fault)
     texts_refused MaySay fault h r =
         record { inputs = inputs; are_told = are_told; ends = refused MaySay inputs fault h within r }
+
+    -- by a bound that was passed
+    pub bound_passed : (fault : RunFault) → IsExcess fault → Refused inputs fault
+        → Runs Answers Refused told contents old new (Err fault)
+    bound_passed (TooMany excess) h r =
+        record { inputs = inputs; are_told = are_told; ends = (within, r) }
+    bound_passed fault h r = absurd h
 
     -- or answered
     pub answered : (status : Status) (text : List ℕ) → Answers inputs status text

@@ -19,13 +19,17 @@ PassesAt vars input most nodes bytes fault =
     (number : ℕ) × (fault ≡ TooMany (excess.NodesAt input number most))
     × ((said : List LineRecord) × (lines_from vars input bytes ≡ Ok said) × IsPastAt most nodes said number)
 
+-- a result within bounds: as it is without them, and then this holds of an answer; or this bound was passed
+abbrev pub Bounded : {X : Type 0} → (Result X RunFault → Type 0) → Type 0 → (RunFault → Type 0)
+    → Result X RunFault → Type 0
+Bounded Plain Fits Passes (Ok answer) = Plain (Ok answer) × Fits
+Bounded Plain Fits Passes (Err fault) = Plain (Err fault) ⊎ Passes fault
+
 -- the result of reading a list of requirements, with these nodes afterwards, of which there may be so many
 abbrev pub LinesWithin : Variables → Input → ℕ → List NodeRecord → List ℕ → Result (List Line) RunFault → Type 0
-LinesWithin vars input most nodes bytes (Ok lines) =
-    AnswersLines (StandsFor vars nodes) vars input bytes (Ok lines) × (length nodes ≤ most)
-LinesWithin vars input most nodes bytes (Err fault) =
-    AnswersLines (StandsFor vars nodes) vars input bytes (Err fault)
-    ⊎ PassesAt vars input most nodes bytes fault
+LinesWithin vars input most nodes bytes =
+    Bounded (AnswersLines (StandsFor vars nodes) vars input bytes) (length nodes ≤ most)
+    (PassesAt vars input most nodes bytes)
 
 -- a command answers only with at most so many nodes
 abbrev pub AnswersWithin : ℕ → List NodeRecord → Answering → Answering
