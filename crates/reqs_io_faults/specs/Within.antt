@@ -19,6 +19,10 @@ PassesAt vars input most nodes bytes fault =
     (number : ℕ) × (fault ≡ TooMany (excess.NodesAt input number most))
     × ((said : List LineRecord) × (lines_from vars input bytes ≡ Ok said) × IsPastAt most nodes said number)
 
+-- there are more nodes than the bound, which the fault names, and no line
+abbrev pub Outgrows : ℕ → List NodeRecord → RunFault → Type 0
+Outgrows most nodes fault = (fault ≡ TooMany (excess.Nodes most)) × (most < length nodes)
+
 -- a result within bounds: as it is without them, and then this holds of an answer; or this bound was passed
 abbrev pub Bounded : {X : Type 0} → (Result X RunFault → Type 0) → Type 0 → (RunFault → Type 0)
     → Result X RunFault → Type 0

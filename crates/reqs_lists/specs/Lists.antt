@@ -1,5 +1,5 @@
 -- The parsed texts of requirement lists, or what is at fault in them; and how a command on them ends.
-use Rattle.std.specs.Prelude.{◌≡◌, ◌<◌, ◌⊎◌, ℕ, List, length, Result, Ok, Err}
+use Rattle.std.specs.Prelude.{◌≡◌, ◌⊎◌, ℕ, List, Result, Ok, Err}
 use Rattle.std.specs.List.{AllZip}
 use Rattle.std.specs.String.{string_bytes}
 use Rattle.pep508_url.specs.Vars.{Variables}
@@ -8,16 +8,15 @@ use Rattle.reqtable_candidates.specs.TextLines.{text_lines}
 use Rattle.reqtable_requirements.specs.LineReading.{LineRecord}
 use Rattle.reqtable_requirements.specs.Requirements.{IsErrorIn, StandsFor}
 use Rattle.reqtable_requirements.specs.declared.requirements.Line.{Line}
-use Rattle.reqs_io_faults.specs.declared.bounds.Excess.TheVariants as excess
 use Rattle.reqs_io_faults.specs.declared.fault.Input.{Input}
 use Rattle.reqs_io_faults.specs.declared.fault.Input.TheVariants.{First, Second}
 use Rattle.reqs_io_faults.specs.declared.fault.RunFault.{RunFault}
-use Rattle.reqs_io_faults.specs.declared.fault.RunFault.TheVariants.{Memory, TooMany}
+use Rattle.reqs_io_faults.specs.declared.fault.RunFault.TheVariants.{Memory}
 use Rattle.reqs_io_faults.specs.declared.fault.Status.{Status}
 use Rattle.reqs_io_faults.specs.Ends.{of_input}
 use Rattle.reqs_io_faults.specs.Faults.{Cause, IsOfInputs, Refuses}
 use Rattle.reqs_io_faults.specs.Inputs.{◌>>=◌, lines_from}
-use Rattle.reqs_io_faults.specs.Within.{PassesAt}
+use Rattle.reqs_io_faults.specs.Within.{PassesAt, Outgrows}
 use Rattle.reqs_lists.specs.declared.answer.Answer.{Answer}
 
 -- the fault is in texts each of which is a list of requirements: its error of an invalid line is that of some
@@ -55,10 +54,6 @@ pub record AreBothRead (nodes : List NodeRecord) (left right : List Line) : Type
 -- lists are parsed to values with this property
 abbrev pub IsRead : {A : Type 0} → Result A Cause → (A → Type 0) → Type 0
 IsRead {A} lists Holds = (read : A) × (lists ≡ Ok read) × Holds read
-
--- there are more nodes than the bound, which the fault names, and no line
-abbrev pub Outgrows : ℕ → List NodeRecord → RunFault → Type 0
-Outgrows most nodes fault = (fault ≡ TooMany (excess.Nodes most)) × (most < length nodes)
 
 -- a bound on the nodes was passed: at a line of an input, or else once all lists were parsed
 abbrev pub PassesNodes : {A : Type 0} → Variables → ℕ → List NodeRecord → List (List ℕ) → Result A Cause

@@ -8,8 +8,8 @@ ghost use Rattle.reqtable_requirements.specs.LineReading.{LineRecord};
 ghost use Rattle.reqtable_requirements.specs.Requirements.{StandsFor};
 ghost use Rattle.reqs_io_faults.specs.declared.fault.Input.TheVariants.{First};
 ghost use Rattle.reqs_io_faults.specs.Inputs.{lines_from};
-ghost use Rattle.reqs_io_faults.specs.Within.{Bounded};
-ghost use Rattle.reqs_lists.specs.Lists.{IsOfLists, AnswersLists, Gives, Outgrows};
+ghost use Rattle.reqs_io_faults.specs.Within.{Bounded, Outgrows};
+ghost use Rattle.reqs_lists.specs.Lists.{IsOfLists, AnswersLists, Gives};
 ghost use Rattle.reqs_lists.specs.Contradictions.{IsConflictsAnswer, HasTooManyCases, RunsConflicts};
 ghost use Rattle.reqs_lists.specs.Contradictions.{FindsOrRefuses, ConflictsPass, RunsConflictsWithin};
 

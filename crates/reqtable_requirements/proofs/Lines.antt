@@ -78,13 +78,6 @@ lines_err Stands view vars texts reading (Err e) error h r =
     let P : RequirementsError → Type 0 = λ e. Tells (told_requirements e) reading × IsErrorIn vars texts e in
     subst P (sym h) r
 
--- and so is want of memory, of which nothing is told
-pub lines_memory : {X L : Type 0} (Stands : L → LineRecord → Type 0) (view : X → List L) (vars : Variables)
-    (texts : List (ℕ × List ℕ)) (reading : Result (List LineRecord) LinesFault) (result : Result X RequirementsError)
-    → IsErrAnd result (λ e. e ≡ errors.Memory) → ReadsLines Stands view vars texts reading result
-lines_memory Stands view vars texts reading result h =
-    lines_err Stands view vars texts reading result errors.Memory h (tt, tt)
-
 -- ---- lines with trees of their markers
 
 -- the line has a tree of these nodes, and says what the one with a formula does

@@ -54,11 +54,11 @@ have_trees vars nodes (l ∷ made) (m ∷ done) (s ∷ said) h k =
     ((l.requirement.marker, subst (IsTreeOf nodes l.requirement.marker) k.0.formula h.0.tree), have_trees vars nodes made done said h.1 k.1)
 
 -- the tree of one more line stops the others
-pub stopped : {X Y : Type 0} (vars : Variables) (most : ℕ) (old new : List NodeRecord) (made : List Line)
+pub stopped : (vars : Variables) (most : ℕ) (old new : List NodeRecord) (made : List Line)
     (done rest : List MarkedLine) (line : MarkedLine) (error : RequirementsError) → AllZip (HasTree old) made done
-    → length old ≤ most → Extends old new → StaysWithin {X} most new line.number (Err error)
+    → length old ≤ most → Extends old new → StaysWithin {X = ℕ} most new line.number (Err error)
     → (said : List LineRecord) → AllZip (SaysLine vars) (done ++ line ∷ rest) said
-    → MakesWithin {Y} most new said (Err error)
+    → MakesWithin {X = ℕ} most new said (Err error)
 stopped vars most old new made done rest line (errors.TooManyNodes number bound) trees fit more h said says =
     let p = parted vars done rest line said says in (
       h.1,
@@ -92,8 +92,8 @@ module _ (vars : Variables) (most : ℕ) (nodes : List NodeRecord) (bytes : List
   fault_first errors.Memory fit h = fit
 
   -- and then an error of making trees
-  pub trees_stop : {X : Type 0} (said : List LineRecord) (error : RequirementsError)
-      → requirements_of vars bytes ≡ Ok said → MakesWithin {X} most nodes said (Err error)
+  pub trees_stop : (said : List LineRecord) (error : RequirementsError)
+      → requirements_of vars bytes ≡ Ok said → MakesWithin {X = ℕ} most nodes said (Err error)
       → ReadsWithin vars most nodes bytes (Err error)
   trees_stop said (errors.NotText offset) e h = absurd h
   trees_stop said (errors.Line number error) e h = absurd h

@@ -367,5 +367,8 @@ fn with_tree(
     if interner.node_count() > most {
         return Err(RequirementsError::TooManyNodes { number, most });
     }
-    Ok(made?)
+    match made {
+        Ok(made) => Ok(made),
+        Err(_) => Err(RequirementsError::Memory),
+    }
 }
