@@ -4,10 +4,11 @@ ghost use Rattle.std.specs.Prelude.{Some};
 ghost use Rattle.std.specs.Fmt.{DisplaysOnOk};
 ghost use Rattle.pep508_environment.specs.Environment.{member_name};
 ghost use Rattle.reqs_io_faults.specs.FaultText.{input_words, member_text, requirement_front};
-ghost use Rattle.reqs_io_faults.specs.FaultText.{requirement_text};
+ghost use Rattle.reqs_io_faults.specs.FaultText.{requirement_text, excess_text};
 ghost use Rattle.reqs_io_faults.specs.FaultText.{fault_text};
 ghost use Rattle.reqs_io_faults.specs.Faults.{IsOfEnvironment};
 
+use crate::bounds::Excess;
 use crate::fault::{Input, RunFault, shape_text};
 use pep508_environment::EnvironmentMember;
 use pep508_error::Pep508Error;
@@ -66,6 +67,7 @@ impl fmt::Display for RunFault {
                 limit,
                 package,
             } => write!(f, "{input}: more than {limit} cases for {package}"),
+            RunFault::TooMany(excess) => write_excess(excess, f),
             fault => write_environment(fault, f),
         }
     }
@@ -100,6 +102,20 @@ fn write_front<W: fmt::Write>(
     let start = error.start();
     let len = error.len();
     writeln!(f, "{input}: line {number}, byte {start}, length {len}")
+}
+
+/// Writes the text of a bound that was passed.
+fn write_excess<W: fmt::Write>(excess: &Excess, f: &mut fmt::Formatter<W>) -> fmt::Result
+    ensures { DisplaysOnOk W.write_str_gives f.old result
+        (Some (excess_text input_words excess.now)) f.new }
+{
+    match excess {
+        Excess::NodesAt { input, number, .. } | Excess::ClausesAt { input, number, .. } => {
+            write!(f, "{input}: line {number}: {excess}")
+        }
+        Excess::Cases { input, .. } => write!(f, "{input}: {excess}"),
+        Excess::Nodes { .. } | Excess::ClausesFor { .. } => write!(f, "{excess}"),
+    }
 }
 
 /// Writes the text of a fault of an environment.

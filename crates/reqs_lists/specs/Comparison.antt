@@ -1,6 +1,6 @@
 -- The command `same`, from the bytes of two lists to those of its answer.
 use Rattle.std.specs.Prelude.{◌≡◌, ◌⊎◌, ℕ, true, false, List, [], ◌∷◌, ◌++◌, codes, unwrap_or, Option, Result}
-use Rattle.std.specs.Prelude.{Err}
+use Rattle.std.specs.Prelude.{Ok, Err}
 use Rattle.serde_json.specs.Data.{Data, boolean, string, object, no_members, member}
 use Rattle.pep508_url.specs.Vars.{Variables}
 use Rattle.pep508_diagram.specs.Diagram.{Diagram}
@@ -14,6 +14,7 @@ use Rattle.reqtable_cases.specs.Requires.{RequireTheSame, IsFirstDifference}
 use Rattle.reqtable_compare.specs.Compared.{MayCompare, Compares}
 use Rattle.reqtable_compare.specs.declared.sides.LineCause.{LineCause}
 use Rattle.reqtable_compare.specs.declared.sides.LineCause.TheVariants as cause
+use Rattle.reqtable_compare.specs.declared.sides.Same.{Same}
 use Rattle.reqtable_compare.specs.declared.sides.SameError.{SameError}
 use Rattle.reqtable_compare.specs.declared.sides.SameError.TheVariants as errors
 use Rattle.reqtable_compare.specs.declared.sides.Side.{Side}
@@ -29,7 +30,9 @@ use Rattle.reqs_io_faults.specs.declared.fault.RunFault.TheVariants as run
 use Rattle.reqs_io_faults.specs.declared.fault.Status.{Status}
 use Rattle.reqs_io_faults.specs.declared.fault.Status.TheVariants as status
 use Rattle.reqs_io_faults.specs.Ends.{Runs}
-use Rattle.reqs_lists.specs.Lists.{IsOfLists, two_lists, IsRead, RefusesLists}
+use Rattle.reqs_io_faults.specs.declared.bounds.Bounds.{Bounds}
+use Rattle.reqs_io_faults.specs.Within.{AnswersWithin, RefusesOr}
+use Rattle.reqs_lists.specs.Lists.{IsOfLists, two_lists, IsRead, RefusesLists, PassesNodes}
 
 -- what two lists require
 abbrev pub Lists : Type 0
@@ -122,4 +125,23 @@ abbrev pub RunsSame : {W : Type 0} → Format → ℕ → Variables → Option (
     → (W → Option (List ℕ)) → W → W → Result Status RunFault → Type 0
 RunsSame format limit vars left right contents old new result =
     Runs (SameAnswersAs format limit vars) (SameRefuses limit vars)
+    (left ∷ right ∷ []) contents old new result
+
+-- ---- with bounds
+
+-- what is found of parsed lists, or why they can't be compared
+abbrev pub ComparesOrRefuses : ℕ → List NodeRecord → Lists → Result Same RunFault → Type 0
+ComparesOrRefuses limit nodes lists (Ok same) = Compares limit nodes lists.0 lists.1 (Ok same)
+ComparesOrRefuses limit nodes lists (Err fault) = (fault ≡ run.Memory) ⊎ CantBeCompared limit lists fault
+
+-- a bound was passed: on the nodes
+abbrev pub SamePasses : Bounds → List NodeRecord → Variables → List (List ℕ) → RunFault → Type 0
+SamePasses bounds nodes vars inputs = PassesNodes vars bounds.nodes nodes inputs (two_lists vars inputs)
+
+-- `same` ends with this result where the bounds are these, with these nodes afterwards
+abbrev pub RunsSameWithin : {W : Type 0} → Bounds → List NodeRecord → Format → ℕ → Variables
+    → Option (List ℕ) → Option (List ℕ) → (W → Option (List ℕ)) → W → W → Result Status RunFault → Type 0
+RunsSameWithin bounds nodes format limit vars left right contents old new result =
+    Runs (AnswersWithin bounds.nodes nodes (SameAnswersAs format limit vars))
+    (RefusesOr (SamePasses bounds nodes vars) (SameRefuses limit vars))
     (left ∷ right ∷ []) contents old new result

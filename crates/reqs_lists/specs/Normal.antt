@@ -2,6 +2,7 @@
 use Rattle.std.specs.Prelude.{◌≡◌, ℕ, List, [], ◌∷◌, codes, Option, Result}
 use Rattle.serde_json.specs.Data.{Data, object, no_members, member}
 use Rattle.pep508_url.specs.Vars.{Variables}
+use Rattle.pep508_tree.specs.Meaning.{NodeRecord}
 use Rattle.reqtable_requirements.specs.LineReading.{LineRecord}
 use Rattle.reqtable_normal.specs.Normalized.{IsNormalText, IsFirstFault}
 use Rattle.reqtable_normal.specs.declared.error.NormalCause.{NormalCause}
@@ -17,7 +18,9 @@ use Rattle.reqs_io_faults.specs.declared.fault.RunFault.TheVariants as run
 use Rattle.reqs_io_faults.specs.declared.fault.Status.{Status}
 use Rattle.reqs_io_faults.specs.declared.fault.Status.TheVariants as status
 use Rattle.reqs_io_faults.specs.Ends.{Runs}
-use Rattle.reqs_lists.specs.Lists.{IsOfLists, one_list, IsRead, RefusesLists}
+use Rattle.reqs_io_faults.specs.declared.bounds.Bounds.{Bounds}
+use Rattle.reqs_io_faults.specs.Within.{AnswersWithin, RefusesOr}
+use Rattle.reqs_lists.specs.Lists.{IsOfLists, one_list, IsRead, RefusesLists, PassesNodes}
 
 -- the cause of the command's fault for this cause
 abbrev pub refused_for : NormalCause → RefusedCause
@@ -59,3 +62,17 @@ abbrev pub RunsNormal : {W : Type 0} → Format → Variables → Option (List �
     → Result Status RunFault → Type 0
 RunsNormal format vars requirements contents old new result =
     Runs (NormalAnswersAs format vars) (NormalRefuses vars) (requirements ∷ []) contents old new result
+
+-- ---- with bounds
+
+-- a bound was passed: on the nodes
+abbrev pub NormalPasses : Bounds → List NodeRecord → Variables → List (List ℕ) → RunFault → Type 0
+NormalPasses bounds nodes vars inputs = PassesNodes vars bounds.nodes nodes inputs (one_list vars inputs)
+
+-- `normal` ends with this result where the bounds are these, with these nodes afterwards
+abbrev pub RunsNormalWithin : {W : Type 0} → Bounds → List NodeRecord → Format → Variables → Option (List ℕ)
+    → (W → Option (List ℕ)) → W → W → Result Status RunFault → Type 0
+RunsNormalWithin bounds nodes format vars requirements contents old new result =
+    Runs (AnswersWithin bounds.nodes nodes (NormalAnswersAs format vars))
+    (RefusesOr (NormalPasses bounds nodes vars) (NormalRefuses vars))
+    (requirements ∷ []) contents old new result

@@ -3,7 +3,8 @@
 //! The marker of a difference that is everywhere is null in JSON: a text that is no marker would be taken
 //! for one.
 
-ghost use Rattle.std.specs.Prelude.{◌≡◌, ◌≢◌, ◌∷◌, ◌++◌, [], List, codes, IfErr, IfOk, string_bytes};
+ghost use Rattle.std.specs.Prelude.{◌≡◌, ◌≢◌, ◌≤◌, ◌∷◌, ◌++◌, [], List, length, codes, IfErr, IfOk};
+ghost use Rattle.std.specs.Prelude.{string_bytes};
 ghost use Rattle.std.specs.List.{AllZip};
 ghost use Rattle.pep508_url.specs.Vars.{Variables};
 ghost use Rattle.pep508_diagram.specs.Question.{IsCanonical};
@@ -11,6 +12,7 @@ ghost use Rattle.pep508_diagram.specs.Shortened.{HasShortVersions};
 ghost use Rattle.pep508_tree.specs.Meaning.{IsTree, diagram_of};
 ghost use Rattle.reqtable_requirements.specs.LineReading.{LineRecord};
 ghost use Rattle.reqtable_requirements.specs.Requirements.{StandsFor};
+ghost use Rattle.reqs_io_faults.specs.Within.{Bounded, Outgrows};
 ghost use Rattle.reqs_lists.specs.Lists.{IsOfLists, AreBothRead, AnswersLists, Gives, two_lists};
 ghost use Rattle.serde_json.specs.View.{view};
 ghost use Rattle.serde_json.specs.Data.{string};
@@ -19,6 +21,7 @@ ghost use Rattle.reqs_json.specs.Lines.{line_of, value_or_null};
 ghost use Rattle.reqs_lists.specs.Comparison.{difference_text, IsSameAnswer, CantBeCompared};
 ghost use Rattle.reqs_lists.specs.Comparison.{same_value, difference_value, same_in, difference_in};
 ghost use Rattle.reqs_lists.specs.Comparison.{input_of, line_fault, fault_of, RunsSame};
+ghost use Rattle.reqs_lists.specs.Comparison.{ComparesOrRefuses, SamePasses, RunsSameWithin};
 
 use crate::answer::Answer;
 use pep508_marker_display::MarkerTreeText;
@@ -26,7 +29,8 @@ use pep508_name::PackageName;
 use pep508_tree::{Interner, MarkerTree};
 use pep508_url::Vars;
 use reqs_io_faults::{
-    Input, RefusedCause, RunFault, Status, read_input, read_requirements, write_answer,
+    Bounds, Excess, Input, RefusedCause, RunFault, Status, read_input, requirements_within,
+    write_answer,
 };
 use reqs_json::{Format, line_of};
 use reqtable_compare::{LineCause, Same, SameError, Side};
@@ -67,9 +71,65 @@ pub fn same<L: Read, R: Read, W: Write>(
     // A refused command has written nothing.
     ensures unwritten { IfErr result (λ fault. fault ≢ RunFault.Write → output.new ≡ output.old) }
 {
+    let mut interner = Interner::new(alloc);
+    let none = Bounds::none();
+    let _ = interner.node_count();
+    match same_within(
+        alloc,
+        left,
+        right,
+        vars,
+        limit,
+        format,
+        none,
+        &mut interner,
+        output,
+    ) {
+        Ok(status) => Ok(status),
+        Err(fault) => Err(fault.unbounded()),
+    }
+}
+
+/// Writes whether two lists require the same as `same` does, unless that passes a bound. Only the bounds on
+/// nodes and clauses matter.
+///
+/// The trees are made in `interner`, best a fresh one by `Interner::with_most(alloc, bounds.nodes)`, which also
+/// stops in the middle of a tree. The nodes of both lists count together.
+///
+/// # Errors
+///
+/// Those of `same`; and in `RunFault::TooMany`, once the whole list is known to be valid, `Excess::NodesAt` for
+/// the first line after whose tree there are more than `bounds.nodes` nodes, or `Excess::Nodes` if there are
+/// more once the lists are compared. Nothing is written then.
+pub fn same_within<L: Read, R: Read, W: Write>(
+    alloc: Global,
+    left: &mut L,
+    right: &mut R,
+    vars: &Vars,
+    limit: u64,
+    format: Format,
+    bounds: Bounds,
+    interner: &mut Interner,
+    output: &mut W,
+) -> Result<Status, RunFault>
+    requires { length interner.old.nodes ≤ bounds.nodes }
+    ensures runs { RunsSameWithin bounds interner.new.nodes format limit vars.now
+        (L.remaining left.old) (R.remaining right.old) W.contents output.old output.new result }
+    // A refused command has written nothing.
+    ensures unwritten { IfErr result (λ fault. fault ≢ RunFault.Write → output.new ≡ output.old) }
+{
     let mut left = read_input(alloc, Input::First, left)?;
     let mut right = read_input(alloc, Input::Second, right)?;
-    let answer = same_answer(alloc, &mut left, &mut right, vars, limit, format)?;
+    let answer = same_answer(
+        alloc,
+        &mut left,
+        &mut right,
+        vars,
+        limit,
+        format,
+        bounds,
+        interner,
+    )?;
     write_answer(output, answer.text.as_str(), answer.status)
 }
 
@@ -81,15 +141,20 @@ fn same_answer(
     vars: &Vars,
     limit: u64,
     format: Format,
+    bounds: Bounds,
+    interner: &mut Interner,
 ) -> Result<Answer, RunFault>
-    ensures { AnswersLists (IsOfLists vars.now (left.old.items ∷ right.old.items ∷ []))
+    requires { length interner.old.nodes ≤ bounds.nodes }
+    ensures { Bounded (AnswersLists (IsOfLists vars.now (left.old.items ∷ right.old.items ∷ []))
         (IsSameAnswer format limit) (CantBeCompared limit)
-        (two_lists vars.now (left.old.items ∷ right.old.items ∷ [])) result }
+        (two_lists vars.now (left.old.items ∷ right.old.items ∷ [])))
+        (length interner.new.nodes ≤ bounds.nodes)
+        (SamePasses bounds interner.new.nodes vars.now (left.old.items ∷ right.old.items ∷ [])) result }
 {
-    let mut interner = Interner::new(alloc);
-    let left = read_requirements(alloc, Input::First, left, &mut interner, vars)?;
-    let right = read_requirements(alloc, Input::Second, right, &mut interner, vars)?;
-    same_of(alloc, &left, &right, &mut interner, limit, format)
+    let most = bounds.nodes;
+    let left = requirements_within(alloc, Input::First, left, interner, vars, most)?;
+    let right = requirements_within(alloc, Input::Second, right, interner, vars, most)?;
+    same_of(alloc, &left, &right, interner, limit, format, most)
 }
 
 /// The answer on two parsed lists.
@@ -100,22 +165,49 @@ fn same_of(
     interner: &mut Interner,
     limit: u64,
     format: Format,
+    most: usize,
 ) -> Result<Answer, RunFault>
     requires { AreBothRead interner.old.nodes left.now right.now }
     ensures { (vars : Variables) (said others : List LineRecord) →
         AllZip (StandsFor vars interner.old.nodes) left.now said →
         AllZip (StandsFor vars interner.old.nodes) right.now others →
-        Gives (IsSameAnswer format limit) (CantBeCompared limit) (said, others) result }
+        Bounded (Gives (IsSameAnswer format limit) (CantBeCompared limit) (said, others))
+        (length interner.new.nodes ≤ most) (Outgrows most interner.new.nodes) result }
 {
-    match reqtable_compare::same(alloc, left, right, interner, limit) {
-        Ok(Same::Yes) => Ok(Answer {
+    match compared_within(alloc, left, right, interner, limit, most)? {
+        Same::Yes => Ok(Answer {
             status: Status::Answered,
             text: same_in(alloc, format)?,
         }),
-        Ok(Same::No { package, tree }) => Ok(Answer {
+        Same::No { package, tree } => Ok(Answer {
             status: Status::Different,
             text: difference_in(alloc, format, &package, tree, interner)?,
         }),
+    }
+}
+
+/// What is found of two parsed lists.
+fn compared_within(
+    alloc: Global,
+    left: &Requirements,
+    right: &Requirements,
+    interner: &mut Interner,
+    limit: u64,
+    most: usize,
+) -> Result<Same, RunFault>
+    requires { AreBothRead interner.old.nodes left.now right.now }
+    ensures { (vars : Variables) (said others : List LineRecord) →
+        AllZip (StandsFor vars interner.old.nodes) left.now said →
+        AllZip (StandsFor vars interner.old.nodes) right.now others →
+        Bounded (ComparesOrRefuses limit interner.new.nodes (said, others))
+        (length interner.new.nodes ≤ most) (Outgrows most interner.new.nodes) result }
+{
+    let compared = reqtable_compare::same(alloc, left, right, interner, limit);
+    if interner.node_count() > most {
+        return Err(RunFault::TooMany(Excess::Nodes { most }));
+    }
+    match compared {
+        Ok(same) => Ok(same),
         Err(error) => Err(fault_of(error, limit)),
     }
 }
