@@ -186,6 +186,6 @@ fn found_within(
             limit,
             package,
         }),
-        Err(TableError::Memory) => Err(RunFault::Memory),
+        Err(TableError::TooManyCasesInAll | TableError::Memory) => Err(RunFault::Memory),
     }
 }
