@@ -1,0 +1,4 @@
+pub mod Lists
+pub mod Best
+pub mod Rows
+pub mod OneRoad

@@ -1,0 +1,90 @@
+//! The required packages, each with what is required of it and its best candidate so far.
+//!
+//! Packages are sorted by their names. A list of candidates mostly comes package by package, so the package of
+//! the candidate before is tried first.
+
+ghost use Rattle.std.specs.Prelude.{◌≡◌, ◌<◌, true, None, List, ℕ, length, IfOk, OnErr};
+ghost use Rattle.std.specs.List.{list_all};
+ghost use Rattle.pep508_requirement_text.specs.FrontReading.{Front};
+ghost use Rattle.reqtable_answer.specs.Asks.{is_of};
+ghost use Rattle.reqtable_answer.specs.Says.{asks_seen};
+ghost use Rattle.reqtable_streaming.specs.Packages.{AreGroups, AreNew, AreRising, IsSound, Finds};
+
+use pep508_name::PackageName;
+use reqtable_answer::{Ask, Groups, is_direct, names_prerelease};
+use reqtable_candidates::Candidate;
+use reqtable_range::OneRange;
+use std::alloc::{AllocError, Global};
+
+/// A required package.
+#[derive(Drop)]
+pub(crate) struct Package<'g, 'a> {
+    pub(crate) name: &'a PackageName,
+    /// The requirements on the package.
+    pub(crate) asks: &'g [Ask<'a>],
+    /// Whether one of them has a URL, so that no candidate is looked for.
+    pub(crate) direct: bool,
+    /// Whether one of their specifiers names a pre-release or developmental release.
+    pub(crate) prerelease: bool,
+    /// How many candidates were tested against the requirements.
+    pub(crate) tested: usize,
+    /// The range of the requirements, once many candidates were tested.
+    pub(crate) range: Option<OneRange<'a>>,
+    /// The first among the highest candidates so far that are admitted and accepted.
+    pub(crate) best: Option<Candidate>,
+}
+
+/// The packages of groups of requirements, sorted by their names.
+pub(crate) fn packages_of<'g, 'a>(
+    alloc: Global,
+    groups: &'g Groups<'a>,
+) -> Result<Vec<Package<'g, 'a>>, AllocError>
+    requires { (all : List Front) × AreGroups all groups.now }
+    ensures packages { IfOk result (λ packages. (all : List Front) → AreGroups all groups.now →
+        AreNew all packages.items) }
+    ensures grown { OnErr result ((all : List Front) → AreGroups all groups.now → 0 < length all) }
+{
+    let mut packages = Vec::new(alloc);
+    for entry in groups.iter() {
+        packages.push(package_of(&entry.1.asks))?;
+    }
+    Ok(packages)
+}
+
+/// The package of these requirements, of which no candidate was read.
+fn package_of<'g, 'a>(asks: &'g [Ask<'a>]) -> Package<'g, 'a>
+    requires { 0 < length asks.now }
+    ensures name { (q : List ℕ) → list_all (is_of q) (asks_seen asks.now) ≡ true → result.name.now ≡ q }
+    ensures asks { result.asks.now ≡ asks.now }
+    ensures best { result.best ≡ None }
+    ensures sound { IsSound result }
+{
+    Package {
+        name: asks[0].name,
+        asks,
+        direct: is_direct(asks),
+        prerelease: names_prerelease(asks),
+        tested: 0,
+        range: None,
+        best: None,
+    }
+}
+
+/// The place of the package of this name. `before` is the place that is tried first. With n packages that are
+/// O(log n) comparisons of names.
+pub(crate) fn place_of(
+    packages: &[Package<'_, '_>],
+    before: usize,
+    name: &PackageName,
+) -> Option<usize>
+    requires { AreRising packages.now }
+    ensures { Finds packages.now name.now result }
+{
+    if before < packages.len() && packages[before].name == name {
+        return Some(before);
+    }
+    match packages.binary_search_by(|package| package.name.cmp(name)) {
+        Ok(place) => Some(place),
+        Err(_) => None,
+    }
+}
