@@ -90,8 +90,8 @@ pub fn same<L: Read, R: Read, W: Write>(
     }
 }
 
-/// Writes whether two lists require the same as `same` does, unless that passes a bound. Only the bounds on
-/// nodes and clauses matter.
+/// Writes whether two lists require the same as `same` does, unless that passes a bound. Only the bound on
+/// nodes matters.
 ///
 /// The trees are made in `interner`, best a fresh one by `Interner::with_most(alloc, bounds.nodes)`, which also
 /// stops in the middle of a tree. The nodes of both lists count together.

@@ -62,8 +62,7 @@ pub fn normal<R: Read, W: Write>(
     }
 }
 
-/// Writes a list in its normal form as `normal` does, unless that passes a bound. Only the bounds on nodes and
-/// clauses matter.
+/// Writes a list in its normal form as `normal` does, unless that passes a bound. Only the bound on nodes matters.
 ///
 /// The trees are made in `interner`, best a fresh one by `Interner::with_most(alloc, bounds.nodes)`, which also
 /// stops in the middle of a line's tree.
