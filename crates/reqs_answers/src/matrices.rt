@@ -194,7 +194,7 @@ fn table_of(
             limit,
             package,
         }),
-        Err(TableError::Memory) => Err(RunFault::Memory),
+        Err(TableError::TooManyCasesInAll | TableError::Memory) => Err(RunFault::Memory),
     }
 }
 

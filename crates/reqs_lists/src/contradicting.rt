@@ -98,6 +98,6 @@ fn conflicts_of(
             limit,
             package,
         }),
-        Err(TableError::Memory) => Err(RunFault::Memory),
+        Err(TableError::TooManyCasesInAll | TableError::Memory) => Err(RunFault::Memory),
     }
 }

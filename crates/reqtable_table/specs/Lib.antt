@@ -1,4 +1,5 @@
 pub mod Kept
+pub mod InAll
 pub mod Casing
 pub mod Cases
 pub mod KeptLines

@@ -7,6 +7,7 @@ use Rattle.pep508_cases.specs.Cases.{AreCases, marks_of}
 use Rattle.pep508_cases.specs.Seen.{case_seen, cases_seen}
 use Rattle.reqtable_groups.specs.declared.given.Given.{Given}
 use Rattle.reqtable_table.specs.Casing.{case_record, HaveMarks, IsCaseOfGiven}
+use Rattle.reqtable_table.specs.Building.{most_cases}
 use Rattle.reqtable_table.specs.KeptLines.{package_record}
 use Rattle.reqtable_table.proofs.Packages.{given_trees, have_marks, has_its_cases, as_long}
 use Rattle.reqtable_table.proofs.table.package_of.Goals as goal
@@ -45,7 +46,8 @@ returns-clause-made c =
     subst (λ l. AllZip (IsCaseOfGiven l) cases sets) c.deref-2.ensures.value
     (subst (λ ss. AllZip (IsCaseOfGiven c.deref-2.result.now) cases (cases_seen ss)) c.cases.ensures c.in_ok-cases.ensures) in
     let long = as_long (IsCaseOfGiven lines) cases sets each in
-    let few : length found ≤ c.args.limit = c.in-Ok.ensures.few in
+    let few : length found ≤ most_cases c.args.room.limit c.args.room.left =
+    subst (λ n. length found ≤ n) c.most.ensures c.in-Ok.ensures.few in
     let counted = length-map found case_seen in
     record {
       name = refl;
