@@ -88,11 +88,15 @@ impl Excess {
     {
         let words = self.to_string(alloc)?;
         match self {
-            Excess::NodesAt { input, number, .. } | Excess::ClausesAt { input, number, .. } => {
+            Excess::NodesAt { input, number, .. } => {
+                at_line(alloc, input.path(paths), *number, words.as_str())
+            }
+            Excess::ClausesAt { input, number, .. } => {
                 at_line(alloc, input.path(paths), *number, words.as_str())
             }
             Excess::Cases { input, .. } => at(alloc, input.path(paths), words.as_str()),
-            Excess::Nodes { .. } | Excess::ClausesFor { .. } => Ok(words),
+            Excess::Nodes { .. } => Ok(words),
+            Excess::ClausesFor { .. } => Ok(words),
         }
     }
 }

@@ -120,7 +120,7 @@ pub fn requirements_within(
     *bytes = Vec::new(alloc);
     match read {
         Ok(requirements) => Ok(requirements),
-        Err(fault) => Err(RunFault::of_requirements(input, fault)),
+        Err(stopped) => Err(RunFault::of_requirements(input, stopped)),
     }
 }
 

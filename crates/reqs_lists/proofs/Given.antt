@@ -30,25 +30,18 @@ given IsOne memory Answers Declines lists read e (Err fault) (inl m) =
     let P : RunFault → Type 0 = λ f. Refuses IsOne f lists in inl (subst P (sym m) (memory, tt))
 given IsOne memory Answers Declines lists read e (Err fault) (inr h) = inr (read, e, h)
 
--- and so within bounds
+-- and so within bounds, of which others hold then
 pub given_within : {A : Type 0} (IsOne : RunFault → Type 0) (memory : IsOne Memory) (Answers : Answered A)
-    (Declines : Refused A) (lists : Result A Cause) (read : A) → lists ≡ Ok read → (Fits : Type 0)
-    (Passes Passed : RunFault → Type 0) → ((fault : RunFault) → Passes fault → Passed fault)
+    (Declines : Refused A) (lists : Result A Cause) (read : A) → lists ≡ Ok read → (Fits Fit : Type 0) → (Fits → Fit)
+    → (Passes Passed : RunFault → Type 0) → ((fault : RunFault) → Passes fault → Passed fault)
     → (result : Result Answer RunFault) → Bounded (Gives Answers Declines read) Fits Passes result
-    → Bounded (AnswersLists IsOne Answers Declines lists) Fits Passed result
-given_within IsOne memory Answers Declines lists read e Fits Passes Passed pass (Ok answer) h = ((read, e, h.0), h.1)
-given_within IsOne memory Answers Declines lists read e Fits Passes Passed pass (Err fault) (inl h) =
+    → Bounded (AnswersLists IsOne Answers Declines lists) Fit Passed result
+given_within IsOne memory Answers Declines lists read e Fits Fit fit Passes Passed pass (Ok answer) h =
+    ((read, e, h.0), fit h.1)
+given_within IsOne memory Answers Declines lists read e Fits Fit fit Passes Passed pass (Err fault) (inl h) =
     inl (given IsOne memory Answers Declines lists read e (Err fault) h)
-given_within IsOne memory Answers Declines lists read e Fits Passes Passed pass (Err fault) (inr h) = inr (pass fault h)
-
--- with no bound left to pass
-pub fitting : {A : Type 0} (IsOne : RunFault → Type 0) (memory : IsOne Memory) (Answers : Answered A)
-    (Declines : Refused A) (lists : Result A Cause) (read : A) → lists ≡ Ok read → (Fits : Type 0) → Fits
-    → (Passed : RunFault → Type 0) (result : Result Answer RunFault) → Gives Answers Declines read result
-    → Bounded (AnswersLists IsOne Answers Declines lists) Fits Passed result
-fitting IsOne memory Answers Declines lists read e Fits fit Passed (Ok answer) h = ((read, e, h), fit)
-fitting IsOne memory Answers Declines lists read e Fits fit Passed (Err fault) h =
-    inl (given IsOne memory Answers Declines lists read e (Err fault) h)
+given_within IsOne memory Answers Declines lists read e Fits Fit fit Passes Passed pass (Err fault) (inr h) =
+    inr (pass fault h)
 
 -- a fault of one list's text is one of texts that are lists
 of_texts : (vars : Variables) (inputs : List (List ℕ)) (list : Input) (bytes : List ℕ) (fault : RunFault)
@@ -91,6 +84,11 @@ module _ (vars : Variables) (left right : List ℕ) (Declines : Refused (List Li
       (λ lines. Ok (said, lines)) h).1 in
       inl (inl (of_texts vars (left ∷ right ∷ []) Second right fault refl h.0, subst P (sym e) rest))
   right_passes said e (inr h) = inr (inl (Second, h))
+
+-- a bound that was passed is that one or another
+pub wider : {A B C : Type 0} → A ⊎ B → A ⊎ (B ⊎ C)
+wider (inl a) = inl a
+wider (inr b) = inr (inl b)
 
 -- two lists that are read
 pub two_read : (vars : Variables) (left right : List ℕ) (said others : List LineRecord)

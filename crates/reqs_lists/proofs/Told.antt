@@ -22,10 +22,10 @@ use Rattle.reqs_io_faults.specs.declared.bounds.Bounds.{Bounds}
 use Rattle.pep508_tree.specs.Meaning.{NodeRecord}
 use Rattle.reqs_io_faults.proofs.Steps.{texts_refused, bound_passed}
 use Rattle.reqs_lists.specs.Comparison.{Lists, input_of, line_fault, fault_of, CantBeCompared}
-use Rattle.reqs_lists.specs.Comparison.{SameAnswersAs, SameRefuses, SamePasses}
+use Rattle.reqs_lists.specs.Comparison.{SameAnswersAs, SameAnswersWithin, SameRefuses, SamePasses}
 use Rattle.reqs_lists.specs.Contradictions.{HasTooManyCases, ConflictsAnswerAs, ConflictsRefuse, ConflictsPass}
 use Rattle.reqs_lists.specs.Lists.{IsOfLists, Refused, RefusesLists, PassesNodes, one_list, two_lists}
-use Rattle.reqs_lists.specs.Normal.{HasNoNormal, NormalAnswersAs, NormalRefuses, NormalPasses}
+use Rattle.reqs_lists.specs.Normal.{HasNoNormal, NormalAnswersAs, NormalAnswersWithin, NormalRefuses, NormalPasses}
 
 -- what refuses lists may be said of them, where that may which refuses what they are read as
 may_be_said : {A : Type 0} (IsOne : RunFault → Type 0) (Declines : Refused A) (lists : Result A Cause)
@@ -65,6 +65,18 @@ pub passes_excess : {A : Type 0} (vars : Variables) (most : ℕ) (nodes : List N
 passes_excess vars most nodes inputs lists fault (inl h) = subst IsExcess (sym h.1.1) tt
 passes_excess vars most nodes inputs lists fault (inr h) = subst IsExcess (sym h.2.0) tt
 
+pub normal_excess : (bounds : Bounds) (nodes : List NodeRecord) (vars : Variables) (inputs : List (List ℕ))
+    (fault : RunFault) → NormalPasses bounds nodes vars inputs fault → IsExcess fault
+normal_excess bounds nodes vars inputs fault (inl h) =
+    passes_excess vars bounds.nodes nodes inputs (one_list vars inputs) fault h
+normal_excess bounds nodes vars inputs fault (inr h) = subst IsExcess (sym h.2.1) tt
+
+pub same_excess : (bounds : Bounds) (nodes : List NodeRecord) (limit : ℕ) (vars : Variables)
+    (inputs : List (List ℕ)) (fault : RunFault) → SamePasses bounds nodes limit vars inputs fault → IsExcess fault
+same_excess bounds nodes limit vars inputs fault (inl h) =
+    passes_excess vars bounds.nodes nodes inputs (two_lists vars inputs) fault h
+same_excess bounds nodes limit vars inputs fault (inr h) = subst IsExcess (sym h.2.1.2) tt
+
 -- a command whose inputs are read, and refused
 module _ {W : Type 0} (contents : W → Option (List ℕ)) (old new : W) (told : List (Option (List ℕ)))
     (inputs : List (List ℕ)) (are_told : AllZip AreAsTold told inputs) (within : AreWithin inputs)
@@ -85,17 +97,17 @@ module _ {W : Type 0} (contents : W → Option (List ℕ)) (old new : W) (told :
 
   module _ (bounds : Bounds) (nodes : List NodeRecord) where
     pub normal_within_refused : NormalRefuses vars inputs fault ⊎ NormalPasses bounds nodes vars inputs fault
-        → Runs (AnswersWithin bounds.nodes nodes (NormalAnswersAs format vars))
+        → Runs (NormalAnswersWithin bounds nodes format vars)
         (RefusesOr (NormalPasses bounds nodes vars) (NormalRefuses vars)) told contents old new (Err fault)
     normal_within_refused (inl h) =
-        refused (AnswersWithin bounds.nodes nodes (NormalAnswersAs format vars))
+        refused (NormalAnswersWithin bounds nodes format vars)
         (RefusesOr (NormalPasses bounds nodes vars) (NormalRefuses vars))
         (may_be_said (IsOfLists vars inputs) HasNoNormal (one_list vars inputs) fault
         (of_no_normal vars inputs fault) h) (inl h)
     normal_within_refused (inr h) =
-        passed (AnswersWithin bounds.nodes nodes (NormalAnswersAs format vars))
+        passed (NormalAnswersWithin bounds nodes format vars)
         (RefusesOr (NormalPasses bounds nodes vars) (NormalRefuses vars))
-        (passes_excess vars bounds.nodes nodes inputs (one_list vars inputs) fault h) (inr h)
+        (normal_excess bounds nodes vars inputs fault h) (inr h)
 
     pub conflicts_within_refused : (limit : ℕ)
         → ConflictsRefuse limit vars inputs fault ⊎ ConflictsPass bounds nodes vars inputs fault
@@ -112,18 +124,18 @@ module _ {W : Type 0} (contents : W → Option (List ℕ)) (old new : W) (told :
         (passes_excess vars bounds.nodes nodes inputs (one_list vars inputs) fault h) (inr h)
 
     pub same_within_refused : (limit : ℕ)
-        → SameRefuses limit vars inputs fault ⊎ SamePasses bounds nodes vars inputs fault
-        → Runs (AnswersWithin bounds.nodes nodes (SameAnswersAs format limit vars))
-        (RefusesOr (SamePasses bounds nodes vars) (SameRefuses limit vars)) told contents old new (Err fault)
+        → SameRefuses limit vars inputs fault ⊎ SamePasses bounds nodes limit vars inputs fault
+        → Runs (SameAnswersWithin bounds nodes format limit vars)
+        (RefusesOr (SamePasses bounds nodes limit vars) (SameRefuses limit vars)) told contents old new (Err fault)
     same_within_refused limit (inl h) =
-        refused (AnswersWithin bounds.nodes nodes (SameAnswersAs format limit vars))
-        (RefusesOr (SamePasses bounds nodes vars) (SameRefuses limit vars))
+        refused (SameAnswersWithin bounds nodes format limit vars)
+        (RefusesOr (SamePasses bounds nodes limit vars) (SameRefuses limit vars))
         (may_be_said (IsOfLists vars inputs) (CantBeCompared limit) (two_lists vars inputs) fault
         (of_not_compared vars inputs fault limit) h) (inl h)
     same_within_refused limit (inr h) =
-        passed (AnswersWithin bounds.nodes nodes (SameAnswersAs format limit vars))
-        (RefusesOr (SamePasses bounds nodes vars) (SameRefuses limit vars))
-        (passes_excess vars bounds.nodes nodes inputs (two_lists vars inputs) fault h) (inr h)
+        passed (SameAnswersWithin bounds nodes format limit vars)
+        (RefusesOr (SamePasses bounds nodes limit vars) (SameRefuses limit vars))
+        (same_excess bounds nodes limit vars inputs fault h) (inr h)
 
 -- what is refused within bounds is refused without them, or passed a bound
 abbrev Wide : Refusing → Refusing → Type 0
@@ -137,37 +149,25 @@ wide Passes Refused passes inputs fault (inr h) = inr (passes inputs fault h)
 
 module _ {W : Type 0} (contents : W → Option (List ℕ)) (old new : W) (told : List (Option (List ℕ))) (vars : Variables)
     (format : Format) (bounds : Bounds) (nodes : List NodeRecord) where
-  module _ (Answers : Answering) (Refused Passes : Refusing)
-      (passes : (inputs : List (List ℕ)) (fault : RunFault) → Passes inputs fault → IsExcess fault) where
-    ok_unbounded : (status : Status)
-        → Runs (AnswersWithin bounds.nodes nodes Answers) (RefusesOr Passes Refused) told contents old new (Ok status)
-        → Runs Answers Refused told contents old new (Ok status)
-    ok_unbounded =
-        ok_without Answers (AnswersWithin bounds.nodes nodes Answers) Refused (RefusesOr Passes Refused) told contents old new
-        (λ inputs status text h. h.0) (wide Passes Refused passes)
-
-    err_unbounded : (fault : RunFault)
-        → Runs (AnswersWithin bounds.nodes nodes Answers) (RefusesOr Passes Refused) told contents old new (Err fault)
-        → Runs Answers Refused told contents old new (Err (unbounded fault))
-    err_unbounded =
-        err_without Answers (AnswersWithin bounds.nodes nodes Answers) Refused (RefusesOr Passes Refused) told contents old new
-        (λ inputs status text h. h.0) (wide Passes Refused passes)
-
   pub normal_ok : (status : Status)
-      → Runs (AnswersWithin bounds.nodes nodes (NormalAnswersAs format vars))
+      → Runs (NormalAnswersWithin bounds nodes format vars)
       (RefusesOr (NormalPasses bounds nodes vars) (NormalRefuses vars)) told contents old new (Ok status)
       → Runs (NormalAnswersAs format vars) (NormalRefuses vars) told contents old new (Ok status)
   normal_ok =
-      ok_unbounded (NormalAnswersAs format vars) (NormalRefuses vars) (NormalPasses bounds nodes vars)
-      (λ inputs fault. passes_excess vars bounds.nodes nodes inputs (one_list vars inputs) fault)
+      ok_without (NormalAnswersAs format vars) (NormalAnswersWithin bounds nodes format vars) (NormalRefuses vars)
+      (RefusesOr (NormalPasses bounds nodes vars) (NormalRefuses vars)) told contents old new
+      (λ inputs status text h. (h.0.0, h.0.1, h.0.2.0))
+      (wide (NormalPasses bounds nodes vars) (NormalRefuses vars) (normal_excess bounds nodes vars))
 
   pub normal_err : (fault : RunFault)
-      → Runs (AnswersWithin bounds.nodes nodes (NormalAnswersAs format vars))
+      → Runs (NormalAnswersWithin bounds nodes format vars)
       (RefusesOr (NormalPasses bounds nodes vars) (NormalRefuses vars)) told contents old new (Err fault)
       → Runs (NormalAnswersAs format vars) (NormalRefuses vars) told contents old new (Err (unbounded fault))
   normal_err =
-      err_unbounded (NormalAnswersAs format vars) (NormalRefuses vars) (NormalPasses bounds nodes vars)
-      (λ inputs fault. passes_excess vars bounds.nodes nodes inputs (one_list vars inputs) fault)
+      err_without (NormalAnswersAs format vars) (NormalAnswersWithin bounds nodes format vars) (NormalRefuses vars)
+      (RefusesOr (NormalPasses bounds nodes vars) (NormalRefuses vars)) told contents old new
+      (λ inputs status text h. (h.0.0, h.0.1, h.0.2.0))
+      (wide (NormalPasses bounds nodes vars) (NormalRefuses vars) (normal_excess bounds nodes vars))
 
   module _ (limit : ℕ) where
     pub conflicts_ok : (status : Status)
@@ -175,8 +175,11 @@ module _ {W : Type 0} (contents : W → Option (List ℕ)) (old new : W) (told :
         (RefusesOr (ConflictsPass bounds nodes vars) (ConflictsRefuse limit vars)) told contents old new (Ok status)
         → Runs (ConflictsAnswerAs format limit vars) (ConflictsRefuse limit vars) told contents old new (Ok status)
     conflicts_ok =
-        ok_unbounded (ConflictsAnswerAs format limit vars) (ConflictsRefuse limit vars) (ConflictsPass bounds nodes vars)
-        (λ inputs fault. passes_excess vars bounds.nodes nodes inputs (one_list vars inputs) fault)
+        ok_without (ConflictsAnswerAs format limit vars) (AnswersWithin bounds.nodes nodes (ConflictsAnswerAs format limit vars))
+        (ConflictsRefuse limit vars) (RefusesOr (ConflictsPass bounds nodes vars) (ConflictsRefuse limit vars)) told contents
+        old new (λ inputs status text h. h.0)
+        (wide (ConflictsPass bounds nodes vars) (ConflictsRefuse limit vars)
+        (λ inputs fault. passes_excess vars bounds.nodes nodes inputs (one_list vars inputs) fault))
 
     pub conflicts_err : (fault : RunFault)
         → Runs (AnswersWithin bounds.nodes nodes (ConflictsAnswerAs format limit vars))
@@ -184,21 +187,28 @@ module _ {W : Type 0} (contents : W → Option (List ℕ)) (old new : W) (told :
         → Runs (ConflictsAnswerAs format limit vars) (ConflictsRefuse limit vars) told contents old new
         (Err (unbounded fault))
     conflicts_err =
-        err_unbounded (ConflictsAnswerAs format limit vars) (ConflictsRefuse limit vars) (ConflictsPass bounds nodes vars)
-        (λ inputs fault. passes_excess vars bounds.nodes nodes inputs (one_list vars inputs) fault)
+        err_without (ConflictsAnswerAs format limit vars) (AnswersWithin bounds.nodes nodes (ConflictsAnswerAs format limit vars))
+        (ConflictsRefuse limit vars) (RefusesOr (ConflictsPass bounds nodes vars) (ConflictsRefuse limit vars)) told contents
+        old new (λ inputs status text h. h.0)
+        (wide (ConflictsPass bounds nodes vars) (ConflictsRefuse limit vars)
+        (λ inputs fault. passes_excess vars bounds.nodes nodes inputs (one_list vars inputs) fault))
 
     pub same_ok : (status : Status)
-        → Runs (AnswersWithin bounds.nodes nodes (SameAnswersAs format limit vars))
-        (RefusesOr (SamePasses bounds nodes vars) (SameRefuses limit vars)) told contents old new (Ok status)
+        → Runs (SameAnswersWithin bounds nodes format limit vars)
+        (RefusesOr (SamePasses bounds nodes limit vars) (SameRefuses limit vars)) told contents old new (Ok status)
         → Runs (SameAnswersAs format limit vars) (SameRefuses limit vars) told contents old new (Ok status)
     same_ok =
-        ok_unbounded (SameAnswersAs format limit vars) (SameRefuses limit vars) (SamePasses bounds nodes vars)
-        (λ inputs fault. passes_excess vars bounds.nodes nodes inputs (two_lists vars inputs) fault)
+        ok_without (SameAnswersAs format limit vars) (SameAnswersWithin bounds nodes format limit vars) (SameRefuses limit vars)
+        (RefusesOr (SamePasses bounds nodes limit vars) (SameRefuses limit vars)) told contents old new
+        (λ inputs status text h. (h.0.0, h.0.1, h.0.2.0))
+        (wide (SamePasses bounds nodes limit vars) (SameRefuses limit vars) (same_excess bounds nodes limit vars))
 
     pub same_err : (fault : RunFault)
-        → Runs (AnswersWithin bounds.nodes nodes (SameAnswersAs format limit vars))
-        (RefusesOr (SamePasses bounds nodes vars) (SameRefuses limit vars)) told contents old new (Err fault)
+        → Runs (SameAnswersWithin bounds nodes format limit vars)
+        (RefusesOr (SamePasses bounds nodes limit vars) (SameRefuses limit vars)) told contents old new (Err fault)
         → Runs (SameAnswersAs format limit vars) (SameRefuses limit vars) told contents old new (Err (unbounded fault))
     same_err =
-        err_unbounded (SameAnswersAs format limit vars) (SameRefuses limit vars) (SamePasses bounds nodes vars)
-        (λ inputs fault. passes_excess vars bounds.nodes nodes inputs (two_lists vars inputs) fault)
+        err_without (SameAnswersAs format limit vars) (SameAnswersWithin bounds nodes format limit vars) (SameRefuses limit vars)
+        (RefusesOr (SamePasses bounds nodes limit vars) (SameRefuses limit vars)) told contents old new
+        (λ inputs status text h. (h.0.0, h.0.1, h.0.2.0))
+        (wide (SamePasses bounds nodes limit vars) (SameRefuses limit vars) (same_excess bounds nodes limit vars))

@@ -1,6 +1,6 @@
 -- The command `same`, from the bytes of two lists to those of its answer.
 use Rattle.std.specs.Prelude.{◌≡◌, ◌⊎◌, ℕ, true, false, List, [], ◌∷◌, ◌++◌, codes, unwrap_or, Option, Result}
-use Rattle.std.specs.Prelude.{Ok, Err}
+use Rattle.std.specs.Prelude.{◌≤◌, ◌<◌, length, Ok, Err, String, Global, string_bytes}
 use Rattle.serde_json.specs.Data.{Data, boolean, string, object, no_members, member}
 use Rattle.pep508_url.specs.Vars.{Variables}
 use Rattle.pep508_diagram.specs.Diagram.{Diagram}
@@ -8,6 +8,7 @@ use Rattle.pep508_diagram.specs.Question.{Question, Valuation, truth, IsCanonica
 use Rattle.pep508_diagram.specs.Shortened.{HasShortVersions}
 use Rattle.pep508_tree.specs.Tree.{Tree}
 use Rattle.pep508_tree.specs.Meaning.{NodeRecord, holds}
+use Rattle.pep508_marker_display.specs.Counted.{clause_count}
 use Rattle.pep508_marker_text_laws.specs.MarkerText.{marker_text}
 use Rattle.reqtable_requirements.specs.LineReading.{LineRecord}
 use Rattle.reqtable_cases.specs.Requires.{RequireTheSame, IsFirstDifference}
@@ -31,7 +32,8 @@ use Rattle.reqs_io_faults.specs.declared.fault.Status.{Status}
 use Rattle.reqs_io_faults.specs.declared.fault.Status.TheVariants as status
 use Rattle.reqs_io_faults.specs.Ends.{Runs}
 use Rattle.reqs_io_faults.specs.declared.bounds.Bounds.{Bounds}
-use Rattle.reqs_io_faults.specs.Within.{AnswersWithin, RefusesOr}
+use Rattle.reqs_io_faults.specs.Within.{RefusesOr, Outgrows}
+use Rattle.reqs_io_faults.specs.declared.bounds.Excess.TheVariants as excess
 use Rattle.reqs_lists.specs.Lists.{IsOfLists, two_lists, IsRead, RefusesLists, PassesNodes}
 
 -- what two lists require
@@ -134,14 +136,54 @@ abbrev pub ComparesOrRefuses : ℕ → List NodeRecord → Lists → Result Same
 ComparesOrRefuses limit nodes lists (Ok same) = Compares limit nodes lists.0 lists.1 (Ok same)
 ComparesOrRefuses limit nodes lists (Err fault) = (fault ≡ run.Memory) ⊎ CantBeCompared limit lists fault
 
--- a bound was passed: on the nodes
-abbrev pub SamePasses : Bounds → List NodeRecord → Variables → List (List ℕ) → RunFault → Type 0
-SamePasses bounds nodes vars inputs = PassesNodes vars bounds.nodes nodes inputs (two_lists vars inputs)
+-- the marker of the first difference, if there is one, has at most so many clauses
+abbrev pub HasFewClauses : ℕ → Lists → Type 0
+HasFewClauses most lists =
+    (name : List ℕ) (diagram : Diagram Question) → IsToldDifference lists name diagram
+    → clause_count diagram ≤ most
+
+-- the answer on such lists
+abbrev pub IsFewSame : Format → ℕ → ℕ → Lists → Status → List ℕ → Type 0
+IsFewSame format limit most lists ended text =
+    IsSameAnswer format limit lists ended text × HasFewClauses most lists
+
+-- the fault names the package of the first difference, whose marker has more clauses
+abbrev pub HasLongDifference : ℕ → ℕ → Lists → RunFault → Type 0
+HasLongDifference limit most lists fault =
+    MayCompare limit lists.0 lists.1 × ((name : List ℕ) × (diagram : Diagram Question)
+    × (fault ≡ run.TooMany (excess.ClausesFor name most)) × IsToldDifference lists name diagram
+    × (most < clause_count diagram))
+
+-- the text of a difference in a format, if its diagram has at most so many clauses
+abbrev pub TellsWithin : Format → ℕ → List ℕ → Diagram Question → Result (String Global) RunFault → Type 0
+TellsWithin format most name diagram (Ok text) =
+    (string_bytes text ≡ difference_in format name diagram) × (clause_count diagram ≤ most)
+TellsWithin format most name diagram (Err fault) =
+    (fault ≡ run.Memory)
+    ⊎ ((fault ≡ run.TooMany (excess.ClausesFor name most)) × (most < clause_count diagram))
+
+-- a bound was passed once lists were parsed
+abbrev pub OutgrowsOrLong : Bounds → List NodeRecord → ℕ → Lists → RunFault → Type 0
+OutgrowsOrLong bounds nodes limit lists fault =
+    Outgrows bounds.nodes nodes fault ⊎ HasLongDifference limit bounds.clauses lists fault
+
+-- the answer for the texts of lists, with at most so many nodes
+abbrev pub SameAnswersWithin : Bounds → List NodeRecord → Format → ℕ → Variables → List (List ℕ) → Status
+    → List ℕ → Type 0
+SameAnswersWithin bounds nodes format limit vars inputs ended text =
+    IsRead (two_lists vars inputs) (λ lists. IsFewSame format limit bounds.clauses lists ended text)
+    × (length nodes ≤ bounds.nodes)
+
+-- a bound was passed: on the nodes, or on the clauses of the first difference
+abbrev pub SamePasses : Bounds → List NodeRecord → ℕ → Variables → List (List ℕ) → RunFault → Type 0
+SamePasses bounds nodes limit vars inputs fault =
+    PassesNodes vars bounds.nodes nodes inputs (two_lists vars inputs) fault
+    ⊎ IsRead (two_lists vars inputs) (λ lists. HasLongDifference limit bounds.clauses lists fault)
 
 -- `same` ends with this result where the bounds are these, with these nodes afterwards
 abbrev pub RunsSameWithin : {W : Type 0} → Bounds → List NodeRecord → Format → ℕ → Variables
     → Option (List ℕ) → Option (List ℕ) → (W → Option (List ℕ)) → W → W → Result Status RunFault → Type 0
 RunsSameWithin bounds nodes format limit vars left right contents old new result =
-    Runs (AnswersWithin bounds.nodes nodes (SameAnswersAs format limit vars))
-    (RefusesOr (SamePasses bounds nodes vars) (SameRefuses limit vars))
+    Runs (SameAnswersWithin bounds nodes format limit vars)
+    (RefusesOr (SamePasses bounds nodes limit vars) (SameRefuses limit vars))
     (left ∷ right ∷ []) contents old new result

@@ -18,13 +18,14 @@ ghost use Rattle.serde_json.specs.View.{view};
 ghost use Rattle.serde_json.specs.Data.{string};
 ghost use Rattle.pep508_marker_text_laws.specs.MarkerText.{marker_text};
 ghost use Rattle.reqs_json.specs.Lines.{line_of, value_or_null};
-ghost use Rattle.reqs_lists.specs.Comparison.{difference_text, IsSameAnswer, CantBeCompared};
+ghost use Rattle.reqs_lists.specs.Comparison.{difference_text, CantBeCompared};
 ghost use Rattle.reqs_lists.specs.Comparison.{same_value, difference_value, same_in, difference_in};
 ghost use Rattle.reqs_lists.specs.Comparison.{input_of, line_fault, fault_of, RunsSame};
 ghost use Rattle.reqs_lists.specs.Comparison.{ComparesOrRefuses, SamePasses, RunsSameWithin};
+ghost use Rattle.reqs_lists.specs.Comparison.{IsFewSame, TellsWithin, OutgrowsOrLong};
 
 use crate::answer::Answer;
-use pep508_marker_display::MarkerTreeText;
+use pep508_marker_display::{MarkerTreeText, has_more_clauses};
 use pep508_name::PackageName;
 use pep508_tree::{Interner, MarkerTree};
 use pep508_url::Vars;
@@ -90,8 +91,8 @@ pub fn same<L: Read, R: Read, W: Write>(
     }
 }
 
-/// Writes whether two lists require the same as `same` does, unless that passes a bound. Only the bound on
-/// nodes matters.
+/// Writes whether two lists require the same as `same` does, unless that passes a bound. Only the bounds on
+/// nodes and clauses matter.
 ///
 /// The trees are made in `interner`, best a fresh one by `Interner::with_most(alloc, bounds.nodes)`, which also
 /// stops in the middle of a tree. The nodes of both lists count together.
@@ -100,7 +101,9 @@ pub fn same<L: Read, R: Read, W: Write>(
 ///
 /// Those of `same`; and in `RunFault::TooMany`, once the whole list is known to be valid, `Excess::NodesAt` for
 /// the first line after whose tree there are more than `bounds.nodes` nodes, or `Excess::Nodes` if there are
-/// more once the lists are compared. Nothing is written then.
+/// more once the lists are compared; or then `Excess::ClausesFor` if the marker of the first difference has more
+/// than `bounds.clauses` clauses, counted as `pep508_marker_display::has_more_clauses` does. Nothing is written
+/// then.
 pub fn same_within<L: Read, R: Read, W: Write>(
     alloc: Global,
     left: &mut L,
@@ -146,15 +149,15 @@ fn same_answer(
 ) -> Result<Answer, RunFault>
     requires { length interner.old.nodes ≤ bounds.nodes }
     ensures { Bounded (AnswersLists (IsOfLists vars.now (left.old.items ∷ right.old.items ∷ []))
-        (IsSameAnswer format limit) (CantBeCompared limit)
+        (IsFewSame format limit bounds.clauses) (CantBeCompared limit)
         (two_lists vars.now (left.old.items ∷ right.old.items ∷ [])))
         (length interner.new.nodes ≤ bounds.nodes)
-        (SamePasses bounds interner.new.nodes vars.now (left.old.items ∷ right.old.items ∷ [])) result }
+        (SamePasses bounds interner.new.nodes limit vars.now (left.old.items ∷ right.old.items ∷ [])) result }
 {
     let most = bounds.nodes;
     let left = requirements_within(alloc, Input::First, left, interner, vars, most)?;
     let right = requirements_within(alloc, Input::Second, right, interner, vars, most)?;
-    same_of(alloc, &left, &right, interner, limit, format, most)
+    same_of(alloc, &left, &right, interner, limit, format, bounds)
 }
 
 /// The answer on two parsed lists.
@@ -165,23 +168,24 @@ fn same_of(
     interner: &mut Interner,
     limit: u64,
     format: Format,
-    most: usize,
+    bounds: Bounds,
 ) -> Result<Answer, RunFault>
     requires { AreBothRead interner.old.nodes left.now right.now }
     ensures { (vars : Variables) (said others : List LineRecord) →
         AllZip (StandsFor vars interner.old.nodes) left.now said →
         AllZip (StandsFor vars interner.old.nodes) right.now others →
-        Bounded (Gives (IsSameAnswer format limit) (CantBeCompared limit) (said, others))
-        (length interner.new.nodes ≤ most) (Outgrows most interner.new.nodes) result }
+        Bounded (Gives (IsFewSame format limit bounds.clauses) (CantBeCompared limit) (said, others))
+        (length interner.new.nodes ≤ bounds.nodes)
+        (OutgrowsOrLong bounds interner.new.nodes limit (said, others)) result }
 {
-    match compared_within(alloc, left, right, interner, limit, most)? {
+    match compared_within(alloc, left, right, interner, limit, bounds.nodes)? {
         Same::Yes => Ok(Answer {
             status: Status::Answered,
             text: same_in(alloc, format)?,
         }),
         Same::No { package, tree } => Ok(Answer {
             status: Status::Different,
-            text: difference_in(alloc, format, &package, tree, interner)?,
+            text: difference_within(alloc, format, package, tree, interner, bounds.clauses)?,
         }),
     }
 }
@@ -235,6 +239,26 @@ fn same_value(alloc: Global) -> Result<Value, AllocError>
     ensures { IfOk result (λ value. view value ≡ same_value) }
 {
     json!(in alloc; {"same": true})
+}
+
+/// The text of a difference in a format, whose tree has at most so many clauses.
+fn difference_within(
+    alloc: Global,
+    format: Format,
+    package: PackageName,
+    tree: MarkerTree,
+    interner: &Interner,
+    most: usize,
+) -> Result<String, RunFault>
+    requires { IsTree interner.now.nodes tree }
+    ensures told { TellsWithin format most package (diagram_of interner.now.nodes tree) result }
+    ensures canonical { IsCanonical (diagram_of interner.now.nodes tree) }
+    ensures short { HasShortVersions (diagram_of interner.now.nodes tree) }
+{
+    if has_more_clauses(alloc, tree, interner, most)? {
+        return Err(RunFault::TooMany(Excess::ClausesFor { package, most }));
+    }
+    Ok(difference_in(alloc, format, &package, tree, interner)?)
 }
 
 /// The text of a difference in a format: the package, and where the tree holds.

@@ -14,14 +14,15 @@ ghost use Rattle.reqs_io_faults.specs.Within.{Bounded};
 ghost use Rattle.reqs_lists.specs.Lists.{IsOfLists, AnswersLists, Gives};
 ghost use Rattle.serde_json.specs.View.{view};
 ghost use Rattle.reqs_json.specs.Lines.{line_of};
-ghost use Rattle.reqs_lists.specs.Normal.{refused_for, IsNormalAnswer, HasNoNormal, RunsNormal};
+ghost use Rattle.reqs_lists.specs.Normal.{refused_for, HasNoNormal, RunsNormal};
 ghost use Rattle.reqs_lists.specs.Normal.{normal_value, normal_in, NormalPasses, RunsNormalWithin};
+ghost use Rattle.reqs_lists.specs.Normal.{IsFewNormal, HasLongLine};
 
 use crate::answer::Answer;
 use pep508_tree::Interner;
 use pep508_url::Vars;
 use reqs_io_faults::{
-    Bounds, Input, RefusedCause, RunFault, Status, read_input, requirements_within, write_answer,
+    Bounds, Excess, Input, RefusedCause, RunFault, Status, read_input, requirements_within, write_answer,
 };
 use reqs_json::{Format, line_of, lines_value};
 use reqtable_normal::{NormalCause, NormalError};
@@ -62,7 +63,8 @@ pub fn normal<R: Read, W: Write>(
     }
 }
 
-/// Writes a list in its normal form as `normal` does, unless that passes a bound. Only the bound on nodes matters.
+/// Writes a list in its normal form as `normal` does, unless that passes a bound. Only the bounds on nodes and
+/// clauses matter.
 ///
 /// The trees are made in `interner`, best a fresh one by `Interner::with_most(alloc, bounds.nodes)`, which also
 /// stops in the middle of a line's tree.
@@ -70,7 +72,9 @@ pub fn normal<R: Read, W: Write>(
 /// # Errors
 ///
 /// Those of `normal`; and in `RunFault::TooMany`, once the whole list is known to be valid, `Excess::NodesAt`
-/// for the first line after whose tree there are more than `bounds.nodes` nodes. Nothing is written then.
+/// for the first line after whose tree there are more than `bounds.nodes` nodes, and otherwise
+/// `Excess::ClausesAt` if the first line that can't be printed has a marker of more than `bounds.clauses` clauses,
+/// counted as `reqtable_normal::normal_within` does. Nothing is written then.
 pub fn normal_within<R: Read, W: Write>(
     alloc: Global,
     requirements: &mut R,
@@ -102,14 +106,14 @@ fn normal_answer(
 ) -> Result<Answer, RunFault>
     requires { length interner.old.nodes ≤ bounds.nodes }
     ensures { Bounded (AnswersLists (IsOfLists vars.now (requirements.old.items ∷ []))
-        (IsNormalAnswer format) HasNoNormal (lines_from vars.now First requirements.old.items))
+        (IsFewNormal format bounds.clauses) HasNoNormal (lines_from vars.now First requirements.old.items))
         (length interner.new.nodes ≤ bounds.nodes)
         (NormalPasses bounds interner.new.nodes vars.now (requirements.old.items ∷ [])) result }
 {
     let most = bounds.nodes;
-    let requirements =
-        requirements_within(alloc, Input::First, requirements, interner, vars, most)?;
-    normal_of(alloc, &requirements, interner, format)
+    let first = Input::First;
+    let requirements = requirements_within(alloc, first, requirements, interner, vars, most)?;
+    normal_of(alloc, &requirements, interner, format, bounds.clauses)
 }
 
 /// The answer on a parsed list.
@@ -118,13 +122,14 @@ fn normal_of(
     requirements: &Requirements,
     interner: &Interner,
     format: Format,
+    most: usize,
 ) -> Result<Answer, RunFault>
     requires { AreOfNodes interner.now.nodes requirements.now }
     ensures { (vars : Variables) (said : List LineRecord) →
         AllZip (StandsFor vars interner.now.nodes) requirements.now said →
-        Gives (IsNormalAnswer format) HasNoNormal said result }
+        Bounded (Gives (IsFewNormal format most) HasNoNormal said) (Unit {0}) (HasLongLine most said) result }
 {
-    match reqtable_normal::normal(alloc, requirements, interner) {
+    match reqtable_normal::normal_within(alloc, requirements, interner, most) {
         Ok(text) => Ok(Answer {
             status: Status::Answered,
             text: normal_in(alloc, format, text)?,
@@ -134,6 +139,11 @@ fn normal_of(
             number,
             cause: refused_for(cause),
         }),
+        Err(NormalError::TooManyClauses { number }) => Err(RunFault::TooMany(Excess::ClausesAt {
+            input: Input::First,
+            number,
+            most,
+        })),
         Err(NormalError::Memory) => Err(RunFault::Memory),
     }
 }
