@@ -51,6 +51,8 @@
 //!   versions 1 and 2 of `foo` as candidates, and the cases of `foo` in a table of the other lines, by the
 //!   same interner. That one is built twice; where the first attempt is refused memory the table before has
 //!   to answer as it did, else the answer is `lost`
+//! - `["normal", LINES, MOST]`: the lines of the list's normal text, each with a `/` behind it, where each
+//!   marker has at most so many clauses (without a number as many as it has); or why it has none
 //! - `["of-url", TEXT]`, `["unnamed-url", TEXT]`, `["unnamed-path", TEXT]`: the URL that is made of one of
 //!   the crate `url`, and of a text and a path as of a requirement without a name, with the text that it was
 //!   given as
@@ -59,6 +61,7 @@ mod answers;
 mod kept;
 mod meant;
 mod names;
+mod normals;
 mod requirements;
 mod tables;
 mod unnamed;

@@ -9,20 +9,20 @@ use reqtable_requirements::Requirements;
 use std::alloc::{AllocError, Global};
 use std::fmt::Write;
 
-/// Returns the normal text of a list, with a `/` for each line's end, or why it has none. Each marker may
-/// have as many clauses as the bound has digits; where the bound is empty there is none. An invalid list is
-/// returned as running out of memory, which no question has.
+/// Returns the normal text of a list, with a `/` for the end of each line, or why it has none; `most` is the
+/// bound on the clauses of each marker, and no number where there is none. An invalid list is returned as
+/// running out of memory, which no question has.
 pub fn normal_text(
     alloc: Global,
     vars: &Vars,
     lines: &str,
-    bound: &str,
+    most: &str,
 ) -> Result<String, AllocError> {
     let mut interner = Interner::new(alloc);
     let Ok(read) = Requirements::parse(alloc, lines.as_bytes(), &mut interner, vars) else {
         return Err(AllocError);
     };
-    match made(alloc, &read, &interner, bound.len()) {
+    match made(alloc, &read, &interner, most) {
         Ok(text) => joined(alloc, &text),
         Err(NormalError::Memory) => Err(AllocError),
         Err(error) => format!(in alloc; "{error}"),
@@ -33,13 +33,13 @@ fn made(
     alloc: Global,
     read: &Requirements,
     interner: &Interner,
-    most: usize,
+    most: &str,
 ) -> Result<String, NormalError>
     requires { AreOfNodes interner.now.nodes read.now }
 {
-    match most {
-        0 => normal(alloc, read, interner),
-        _ => normal_within(alloc, read, interner, most),
+    match most.parse::<usize>() {
+        Ok(most) => normal_within(alloc, read, interner, most),
+        Err(_) => normal(alloc, read, interner),
     }
 }
 

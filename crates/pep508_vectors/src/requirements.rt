@@ -4,7 +4,7 @@ ghost use Rattle.std.specs.Prelude.{IfOk};
 ghost use Rattle.pep508_tree.specs.Meaning.{IsTree};
 
 use crate::answers::DIRECTORY;
-use crate::{kept, meant, tables, unnamed, warnings};
+use crate::{kept, meant, normals, tables, unnamed, warnings};
 use pep440_specifier_list::VersionSpecifiers;
 use pep508_error::{Pep508Error, Pep508ErrorSource};
 use pep508_name::{ExtraName, RequirementOrigin};
@@ -37,6 +37,7 @@ pub fn answer(
         | "keeps"
         | "with-extra" => of_text(alloc, vars, kind, text, other),
         "keeps table" => tables::keeps(alloc, vars, text, other),
+        "normal" => normals::normal_text(alloc, vars, text, other),
         "plain" => plain(alloc, vars, text),
         "extras" => extras(alloc, text),
         "warnings" => warnings::warnings(alloc, vars, text),
