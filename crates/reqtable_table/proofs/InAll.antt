@@ -122,6 +122,7 @@ module _ (limit : ℕ) (nodes : List NodeRecord) where
 
   sets_sum : (groups : List Group) (table : List KeptPackage) (h : AllZip (IsPackageOf limit nodes) groups table) →
       cases_in_all (made_sets groups table h) ≡ table_cases table
+  unfolding made_sets
   sets_sum [] [] h = refl
   sets_sum [] (kept ∷ table) h = absurd h
   sets_sum (group ∷ groups) [] h = absurd h
@@ -266,6 +267,7 @@ module _ (vars : Variables) (old new : List NodeRecord) (keeps : Extends old new
 
     all_some : (at some later : List Group) → groups ≡ at ++ (some ++ later) → (kept : List KeptPackage)
         (h : Made some kept) → AllZip (AreSomeCases limit said) (group_names some) (made_sets limit new some kept h)
+    unfolding made_sets
     all_some at [] later e [] h = tt
     all_some at [] later e (one ∷ kept) h = absurd h
     all_some at (g ∷ some) later e [] h = absurd h

@@ -1,4 +1,4 @@
-use Rattle.std.proofs.Common.{◌≡◌, ◌∙◌, ◌≤◌, List, map, length, refl, sym, ap, subst, arith}
+use Rattle.std.proofs.Common.{◌≡◌, ◌∙◌, ◌≤◌, ◌+◌, ◌*◌, List, map, length, refl, sym, ap, subst, arith}
 use Rattle.std.proofs.lemmas.List.{length-map}
 use Rattle.std.specs.List.{AllByRecursion, AllZip}
 use Rattle.pep508_tree.specs.Tree.{Tree}
@@ -9,6 +9,7 @@ use Rattle.reqtable_groups.specs.declared.given.Given.{Given}
 use Rattle.reqtable_table.specs.Casing.{case_record, HaveMarks, IsCaseOfGiven}
 use Rattle.reqtable_table.specs.Building.{most_cases}
 use Rattle.reqtable_table.specs.KeptLines.{package_record}
+use Rattle.reqtable_table.proofs.Rooms.{most_at_most, fewer_conjunctions}
 use Rattle.reqtable_table.proofs.Packages.{given_trees, have_marks, has_its_cases, as_long}
 use Rattle.reqtable_table.proofs.table.package_of.Goals as goal
 
@@ -57,3 +58,15 @@ returns-clause-made c =
           (subst (λ trees. AreCases (marks_of old trees) new sets) same c.in-Ok.ensures.cases) each;
       few = omega (arith, long, few, counted);
     }
+
+pub returns-clause-counts : goal.returns-clause-counts
+returns-clause-counts c =
+    let lines = c.args.group.lines.items in
+    let room = c.args.room in
+    let old = c.args.interner.now.conjunctions in
+    let new = c.find.new.interner.conjunctions in
+    let long : length c.in_ok-trees.trees.items ≡ length lines =
+    ap length (c.in_ok-trees.ensures ∙ ap markers c.deref.ensures.value) ∙ length-map lines (λ (line : Given). line.marker) in
+    fewer_conjunctions (length lines) (most_cases room.limit room.left) room.limit old new (most_at_most room.limit room.left)
+    (subst (λ n. new ≤ old + 2 * (length lines * n)) c.most.ensures
+    (subst (λ n. new ≤ old + 2 * (n * c.most.result)) long c.in-Ok.ensures.counts))

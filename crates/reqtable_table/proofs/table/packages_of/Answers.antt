@@ -1,9 +1,10 @@
-use Rattle.std.proofs.Common.{◌≡◌, ◌∙◌, ◌≤◌, ◌+◌, ◌*◌, ◌++◌, ◌∷◌, [], map, length, refl, sym, ap, subst, append_assoc, rules}
-use Rattle.std.proofs.lemmas.List.{map-append}
+use Rattle.std.proofs.Common.{◌≡◌, ◌∙◌, ◌≤◌, ◌+◌, ◌*◌, ◌++◌, ◌∷◌, [], map, length, refl, sym, ap, subst, append_assoc, append-nil, rules}
+use Rattle.std.proofs.lemmas.List.{map-append, length-map}
 use Rattle.std.specs.List.{AllZip, AllByRecursion}
 use Rattle.std.specs.Vec.Iter.{into_iter_items}
 use Rattle.pep508_tree.proofs.Conjoining.{extends_on}
 use Rattle.reqtable_groups.specs.Given.{lines_in}
+use Rattle.reqtable_table.specs.Casing.{case_record}
 use Rattle.reqtable_table.specs.KeptLines.{package_record}
 use Rattle.reqtable_table.specs.Building.{AreOfTrees, IsPackageOf, IsRefusal, most_cases, IsLeft}
 use Rattle.reqtable_table.specs.Cases.{table_cases}
@@ -50,10 +51,11 @@ loop-group-preserved c =
     let rest = into_iter_items c.next.new.self in
     let limit = c.args.room.limit in
     let before = c.loop-group.invariant in
-    let left = c.loop-group.left.left in
-    let package = package_record c.in-Ok.package in
-    let made : IsPackageOf (most_cases limit left) new group package =
-    subst (λ n. IsPackageOf (most_cases n left) new group package) before.limit c.in-Ok.ensures.made in
+    let own = c.loop-group.left.left in
+    let kept = package_record c.in-Ok.package in
+    let made : IsPackageOf (most_cases limit own) new group kept =
+    subst (λ n. IsPackageOf (most_cases n own) new group kept) before.limit c.in-Ok.ensures.made in
+    let count : length kept.cases ≡ c.len.result = length-map c.in-Ok.package.cases.items case_record ∙ sym c.len.ensures in
     let pushed = ap (map package_record) c.in_ok-push-in-Ok.ensures.items ∙ map-append package_record c.loop-group.packages.items _ in
     let old_table = map package_record c.loop-group.packages.items in
     let taken : into_iter_items c.loop-group.group-iterator ≡ group ∷ rest = search rules in
@@ -72,16 +74,17 @@ loop-group-preserved c =
       left = left.1;
       made =
           zip_pushed (IsPackageOf limit new) done (done ++ group ∷ []) old_table (map package_record c.push.new.self.items) group
-          package refl pushed (packages_on limit now new done old_table c.in-Ok.ensures.keeps before.made)
-          (of_fewer (most_cases limit left) limit new group package (most_at_most limit left) made);
+          kept refl pushed (packages_on limit now new done old_table c.in-Ok.ensures.keeps before.made)
+          (of_fewer (most_cases limit own) limit new group kept (most_at_most limit own) made);
       last = c.in-Ok.ensures.last;
       limit = c.after.ensures.limit ∙ before.limit;
       is_left =
           subst (λ l. IsLeft c.args.room.left (table_cases (map package_record c.push.new.self.items)) l)
           (sym c.after.ensures.left)
           (left_after limit c.args.room.left (table_cases old_table)
-          (table_cases (map package_record c.push.new.self.items)) (length package.cases) left
-          (ap table_cases pushed ∙ table_pushed old_table package) made.few before.is_left);
+          (table_cases (map package_record c.push.new.self.items)) c.len.result own
+          (ap table_cases pushed ∙ table_pushed old_table kept ∙ ap (λ n. table_cases old_table + n) count)
+          (subst (λ n. n ≤ most_cases limit own) count made.few) before.is_left);
     }
 
 pub returns-in_err-push-in-Ok-clause-counts : goal.returns-in_err-push-in-Ok-clause-counts
@@ -128,5 +131,14 @@ returns-in-Err-clause-counts c =
 
 pub returns-clause-made : goal.returns-clause-made
 returns-clause-made c =
+    let done = c.loop-group.yielded in
     let is = c.loop-group.invariant in
-    record { made = ?; left = c.loop-group.left.left; is_left = is.is_left }
+    let end : into_iter_items c.loop-group.group-iterator ≡ [] = search rules in
+    let whole : done ≡ c.args.groups.items = sym (append-nil done) ∙ ap (λ l. done ++ l) (sym end) ∙ is.split in
+    record {
+      made =
+          subst (λ gs. AllZip (IsPackageOf c.args.room.limit c.loop-group.interner.nodes) gs
+          (map package_record c.loop-group.packages.items)) whole is.made;
+      left = c.loop-group.left.left;
+      is_left = is.is_left;
+    }
