@@ -67,8 +67,8 @@ module _ (admits : Admits) (all : List Front) where
 
   -- a package while some candidates were read
   pub record KeepsBest (candidates : List Candidate) (wanted : Package) : Type 0 where
-    pub asks : asks_seen wanted.asks.now ≡ filter (is_of wanted.name.now) all
-    pub best : wanted.direct ≡ false → IsKept (asks_seen wanted.asks.now) (of_package wanted.name.now candidates) wanted.best
+    pub asks : asks_seen wanted.asks.items ≡ filter (is_of wanted.name.now) all
+    pub best : wanted.direct ≡ false → IsKept (asks_seen wanted.asks.items) (of_package wanted.name.now candidates) wanted.best
 
   pub begins : (wanted : Package) → IsNew all wanted → KeepsBest [] wanted
   begins wanted new = record { asks = new.asks; best = λ d. (None, refl, new.best) }
@@ -81,22 +81,22 @@ module _ (admits : Admits) (all : List Front) where
   pub ended : (candidates : List Candidate) (wanted : Package) → KeepsBest candidates wanted → HasBest admits all candidates wanted
   ended candidates wanted keeps = record {
     asks = keeps.asks;
-    best = λ d. ended_by (asks_seen wanted.asks.now) (of_package wanted.name.now candidates) wanted.best (keeps.best d);
+    best = λ d. ended_by (asks_seen wanted.asks.items) (of_package wanted.name.now candidates) wanted.best (keeps.best d);
   }
 
   -- a candidate of the package is offered
   module _ (candidates : List Candidate) (candidate : Candidate) (old new : Package) where
     taken_or_not : IsSound old → IsOffered admits candidate old new → bytes_eq old.name.now candidate.name ≡ true → old.direct ≡ false
-        → IsKept (asks_seen old.asks.now) (of_package old.name.now candidates) old.best
-        → IsKept (asks_seen old.asks.now) (of_package old.name.now (candidates ++ candidate ∷ [])) new.best
+        → IsKept (asks_seen old.asks.items) (of_package old.name.now candidates) old.best
+        → IsKept (asks_seen old.asks.items) (of_package old.name.now (candidates ++ candidate ∷ [])) new.best
     taken_or_not sound offered named d kept =
-        let asks = asks_seen old.asks.now in
+        let asks = asks_seen old.asks.items in
         let own = of_package old.name.now candidates in
         let n : ℕ × Candidate = (0 + length candidates, candidate) in
         let test : ℕ × Candidate → Bool = may_be_taken admits asks in
         let next : Option (ℕ × Candidate) = better_of answer.by_version test n kept.0 in
         let same : passes admits old candidate ≡ test n =
-        ap (λ (f : ℕ × Candidate → Bool). f (0, candidate)) (passes_same admits old.asks.now old.prerelease sound.prerelease) in (
+        ap (λ (f : ℕ × Candidate → Bool). f (0, candidate)) (passes_same admits old.asks.items old.prerelease sound.prerelease) in (
           next,
           best_better by_version_total test own (of_package old.name.now (candidates ++ candidate ∷ [])) n kept.0 next
               (more old.name.now candidates candidate true named) refl kept.1,
@@ -108,12 +108,12 @@ module _ (admits : Admits) (all : List Front) where
         → KeepsBest candidates old → KeepsBest (candidates ++ candidate ∷ []) new
     offered_one sound offered named keeps = record {
       asks =
-          ap (λ a. asks_seen a.now) offered.asks ∙ keeps.asks ∙ ap (λ n. filter (is_of n.now) all) (sym offered.name);
+          ap (λ a. asks_seen a.items) offered.asks ∙ keeps.asks ∙ ap (λ n. filter (is_of n.now) all) (sym offered.name);
       best = λ d.
           let P : List Front → Type 0 = λ asks. IsKept asks (of_package new.name.now (candidates ++ candidate ∷ [])) new.best in
-          let Q : List ℕ → Type 0 = λ name. IsKept (asks_seen old.asks.now) (of_package name (candidates ++ candidate ∷ [])) new.best in
+          let Q : List ℕ → Type 0 = λ name. IsKept (asks_seen old.asks.items) (of_package name (candidates ++ candidate ∷ [])) new.best in
           let before : old.direct ≡ false = sym offered.direct ∙ d in
-          subst P (sym (ap (λ a. asks_seen a.now) offered.asks))
+          subst P (sym (ap (λ a. asks_seen a.items) offered.asks))
           (subst Q (sym (ap (λ n. n.now) offered.name)) (taken_or_not sound offered named before (keeps.best before)));
     }
 
@@ -122,7 +122,7 @@ module _ (admits : Admits) (all : List Front) where
     passed_over e named keeps =
         let grown : of_package old.name.now (candidates ++ candidate ∷ []) ≡ of_package old.name.now candidates =
         more old.name.now candidates candidate false named ∙ append-nil (of_package old.name.now candidates) in
-        let P : List (ℕ × Candidate) → Type 0 = λ own. IsKept (asks_seen old.asks.now) own old.best in
+        let P : List (ℕ × Candidate) → Type 0 = λ own. IsKept (asks_seen old.asks.items) own old.best in
         let still : KeepsBest (candidates ++ candidate ∷ []) old =
         record { asks = keeps.asks; best = λ d. subst P (sym grown) (keeps.best d) } in
         subst (KeepsBest (candidates ++ candidate ∷ [])) (sym e) still

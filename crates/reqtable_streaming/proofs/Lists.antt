@@ -25,6 +25,14 @@ pub all_more : {X : Type 0} (P : X → Type 0) (xs : List X) (x : X) → AllByRe
 all_more P [] x h p = (p, tt)
 all_more P (y ∷ xs) x h p = (h.0, all_more P xs x h.1 p)
 
+pub all_behind : {X : Type 0} (P : X → Type 0) (xs : List X) (y : X) (ys : List X) → AllByRecursion P (xs ++ y ∷ ys) → P y
+all_behind P [] y ys h = h.0
+all_behind P (x ∷ xs) y ys h = all_behind P xs y ys h.1
+
+pub all_first : {X : Type 0} (P : X → Type 0) (xs ys : List X) → AllByRecursion P (xs ++ ys) → AllByRecursion P xs
+all_first P [] ys h = tt
+all_first P (x ∷ xs) ys h = (h.0, all_first P xs ys h.1)
+
 pub all_mapped : {X : Type 0} (P Q : X → Type 0) (xs : List X) → ((x : X) → P x → Q x) → AllByRecursion P xs → AllByRecursion Q xs
 all_mapped P Q [] f h = tt
 all_mapped P Q (x ∷ xs) f h = (f x h.0, all_mapped P Q xs f h.1)

@@ -1,5 +1,5 @@
 -- The rows of packages whose best candidates are known are the answer.
-use Rattle.std.proofs.Common.{◌≡◌, ◌∙◌, ℕ, zero, suc, ◌+◌, ◌<◌, Bool, true, false, cond, List, [], ◌∷◌, ◌++◌, map, filter, find, length, Option, Some, None, option_map, refl, sym, ap, subst, arith, append_assoc, append-nil, length-append}
+use Rattle.std.proofs.Common.{◌≡◌, ◌∙◌, ℕ, zero, suc, ◌+◌, ◌<◌, Bool, true, false, not, cond, List, [], ◌∷◌, ◌++◌, map, filter, find, length, Option, Some, None, option_map, refl, sym, ap, subst, arith, append_assoc, append-nil, length-append}
 use Rattle.std.specs.List.{AllByRecursion, AllZip, enumerate_from, slice_get, list_any, list_all}
 use Rattle.std.specs.List.Sorted.{IsStrictlySortedBy}
 use Rattle.std.specs.Ordering.{nat_cmp, is_gt}
@@ -69,7 +69,7 @@ stands R candidates named test found e =
     let own : List (ℕ × Candidate) = filter test (filter named (enumerate_from 0 candidates)) in
     let each : AllByRecursion P (enumerate_from 0 candidates) = numbered_behind 0 [] candidates candidates refl refl in
     let those : AllByRecursion P own = all_kept P test (filter named (enumerate_from 0 candidates)) (all_kept P named (enumerate_from 0 candidates) each) in
-    all_found P (λ x. list_all (λ y. cond (is_gt (R y x)) false true) own) own found those e
+    all_found P (λ x. list_all (λ y. not (is_gt (R y x))) own) own found those e
 
 -- ---- outcomes
 
@@ -157,19 +157,19 @@ module _ (admits : Admits) (all : List Front) (candidates : List Candidate) wher
 
   pub made : (wanted : Package) (row : RowRecord) (old new : List Candidate) → IsSound wanted → HasBest admits all candidates wanted
       → row.name ≡ wanted.name.now → IsStrictlySortedBy (slice_cmp nat_cmp) row.extras
-      → ((extra : List ℕ) → list_any (bytes_eq extra) row.extras ≡ list_any (has_extra extra) (asks_seen wanted.asks.now))
+      → ((extra : List ℕ) → list_any (bytes_eq extra) row.extras ≡ list_any (has_extra extra) (asks_seen wanted.asks.items))
       → IsKeptAs wanted.direct wanted.best old new row.outcome → IsMade new wanted row
   made wanted row old new sound has named rise are kept =
-      let asks : asks_seen wanted.asks.now ≡ filter (is_of row.name) all = has.asks ∙ ap (λ n. filter (is_of n) all) (sym named) in
-      let url : list_any has_url (asks_seen wanted.asks.now) ≡ wanted.direct = any_mapped has_url ask_seen wanted.asks.now ∙ sym sound.direct in
+      let asks : asks_seen wanted.asks.items ≡ filter (is_of row.name) all = has.asks ∙ ap (λ n. filter (is_of n) all) (sym named) in
+      let url : list_any has_url (asks_seen wanted.asks.items) ≡ wanted.direct = any_mapped has_url ask_seen wanted.asks.items ∙ sym sound.direct in
       let P : List Front → Type 0 = λ a. SelectsAs new candidates row.outcome (outcome_for admits candidates a row.name) in
-      let Q : List ℕ → Type 0 = λ n. SelectsAs new candidates row.outcome (outcome_for admits candidates (asks_seen wanted.asks.now) n) in
+      let Q : List ℕ → Type 0 = λ n. SelectsAs new candidates row.outcome (outcome_for admits candidates (asks_seen wanted.asks.items) n) in
       record {
         name = named;
         extras_rise = rise;
         extras_are = λ extra. are extra ∙ ap (list_any (has_extra extra)) asks;
         outcome = subst P asks (subst Q (sym named)
-            (selects_by admits candidates wanted.direct (asks_seen wanted.asks.now) wanted.name.now wanted.best old new row.outcome url has.best kept));
+            (selects_by admits candidates wanted.direct (asks_seen wanted.asks.items) wanted.name.now wanted.best old new row.outcome url has.best kept));
       }
 
   made_still : (selected more : List Candidate) (wanted : Package) (row : RowRecord) → IsMade selected wanted row → IsMade (selected ++ more) wanted row

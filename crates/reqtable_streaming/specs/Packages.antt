@@ -42,16 +42,16 @@ Finds packages name (Some place) =
 
 -- what a package keeps of its requirements is theirs
 pub record IsSound (wanted : Package) : Type 0 where
-  pub direct : wanted.direct ≡ list_any (λ ask. has_url (ask_seen ask)) wanted.asks.now
-  pub prerelease : wanted.prerelease ≡ list_any (λ ask. has_prerelease (ask_seen ask)) wanted.asks.now
-  pub told : TellsTaken wanted.asks.now wanted.range
+  pub direct : wanted.direct ≡ list_any (λ ask. has_url (ask_seen ask)) wanted.asks.items
+  pub prerelease : wanted.prerelease ≡ list_any (λ ask. has_prerelease (ask_seen ask)) wanted.asks.items
+  pub told : TellsTaken wanted.asks.items wanted.range
 
 abbrev pub AreSound : List Package → Type 0
 AreSound packages = AllByRecursion IsSound packages
 
 -- a package of these requirements, of which no candidate was read
 pub record IsNew (all : List Front) (wanted : Package) : Type 0 where
-  pub asks : asks_seen wanted.asks.now ≡ filter (is_of wanted.name.now) all
+  pub asks : asks_seen wanted.asks.items ≡ filter (is_of wanted.name.now) all
   pub best : wanted.best ≡ None
 
 -- the packages that are required, by their names; no candidate was read
@@ -76,7 +76,7 @@ by_version a b = version_cmp a.version b.version
 
 -- the package's requirements accept the candidate, and it is admitted
 abbrev pub passes : Admits → Package → Candidate → Bool
-passes admits wanted candidate = passes_by admits wanted.asks.now wanted.prerelease (0, candidate)
+passes admits wanted candidate = passes_by admits wanted.asks.items wanted.prerelease (0, candidate)
 
 -- a package after a candidate of it was offered
 pub record IsOffered (admits : Admits) (candidate : Candidate) (old new : Package) : Type 0 where
@@ -99,9 +99,9 @@ IsNext admits candidate old new = IsNextBy (bytes_eq old.name.now candidate.name
 -- the best candidate of a package is the first among the highest of the list that are accepted and admitted
 pub record HasBest (admits : Admits) (all : List Front) (candidates : List Candidate) (wanted : Package)
     : Type 0 where
-  pub asks : asks_seen wanted.asks.now ≡ filter (is_of wanted.name.now) all
+  pub asks : asks_seen wanted.asks.items ≡ filter (is_of wanted.name.now) all
   pub best : wanted.direct ≡ false → wanted.best ≡ option_map (λ found. found.1)
-      (answer.first_greatest answer.by_version (filter (may_be_taken admits (asks_seen wanted.asks.now))
+      (answer.first_greatest answer.by_version (filter (may_be_taken admits (asks_seen wanted.asks.items))
       (filter (is_candidate wanted.name.now) (enumerate_from 0 candidates))))
 
 -- the packages that are required, by their names, with their best candidates of the list

@@ -21,7 +21,7 @@ use std::alloc::{AllocError, Global};
 /// candidate before; returns that of this candidate.
 pub(crate) fn offer_to<F: Fn(&Version, bool) -> bool>(
     alloc: Global,
-    packages: &mut Vec<Package<'_, '_>>,
+    packages: &mut Vec<Package<'_>>,
     before: usize,
     candidate: Candidate,
     admission: &Admission<F>,
@@ -37,10 +37,7 @@ pub(crate) fn offer_to<F: Fn(&Version, bool) -> bool>(
     let Some(place) = place_of(packages, before, &candidate.name) else {
         return Ok(before);
     };
-    match packages.get_mut(place) {
-        Some(wanted) => offer(alloc, wanted, candidate, admission)?,
-        None => {}
-    }
+    offer(alloc, &mut packages[place], candidate, admission)?;
     Ok(place)
 }
 
@@ -48,7 +45,7 @@ pub(crate) fn offer_to<F: Fn(&Version, bool) -> bool>(
 /// accepted.
 fn offer<F: Fn(&Version, bool) -> bool>(
     alloc: Global,
-    wanted: &mut Package<'_, '_>,
+    wanted: &mut Package<'_>,
     candidate: Candidate,
     admission: &Admission<F>,
 ) -> Result<(), AllocError>
@@ -66,7 +63,7 @@ fn offer<F: Fn(&Version, bool) -> bool>(
         return Ok(());
     }
     prepare(alloc, wanted)?;
-    if all_take(alloc, wanted.asks, &wanted.range, &candidate.version)? {
+    if all_take(alloc, &wanted.asks, &wanted.range, &candidate.version)? {
         wanted.best = Some(candidate);
     }
     Ok(())
@@ -84,14 +81,14 @@ fn is_greater(candidate: &Candidate, best: &Option<Candidate>) -> bool
 
 /// Counts a test of a candidate, and makes the range of the requirements where that many tests want one. The
 /// count is looked at where it doubles, so that all looks together are linear in the tests.
-fn prepare(alloc: Global, wanted: &mut Package<'_, '_>) -> Result<(), AllocError>
+fn prepare(alloc: Global, wanted: &mut Package<'_>) -> Result<(), AllocError>
     requires { IsSound wanted.old }
     ensures sound { OnOk result (IsSound wanted.new) }
     ensures same { OnOk result (IsAsBefore wanted.old wanted.new) }
 {
     wanted.tested = wanted.tested.saturating_add(1);
     if wanted.range.is_none() && wanted.tested.is_power_of_two() {
-        wanted.range = range_of(alloc, wanted.asks, wanted.tested)?;
+        wanted.range = range_of(alloc, &wanted.asks, wanted.tested)?;
     }
     Ok(())
 }

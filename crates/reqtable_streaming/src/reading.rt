@@ -21,7 +21,7 @@ use std::alloc::Global;
 pub(crate) fn read_candidates<F: Fn(&Version, bool) -> bool>(
     alloc: Global,
     text: &str,
-    packages: &mut Vec<Package<'_, '_>>,
+    packages: &mut Vec<Package<'_>>,
     admission: &Admission<F>,
 ) -> Result<(), CandidatesError>
     requires callable { F.IsAlwaysCallable admission.now }

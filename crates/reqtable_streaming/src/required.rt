@@ -18,10 +18,10 @@ use std::alloc::{AllocError, Global};
 
 /// A required package.
 #[derive(Drop)]
-pub(crate) struct Package<'g, 'a> {
+pub(crate) struct Package<'a> {
     pub(crate) name: &'a PackageName,
     /// The requirements on the package.
-    pub(crate) asks: &'g [Ask<'a>],
+    pub(crate) asks: Vec<Ask<'a>>,
     /// Whether one of them has a URL, so that no candidate is looked for.
     pub(crate) direct: bool,
     /// Whether one of their specifiers names a pre-release or developmental release.
@@ -35,10 +35,10 @@ pub(crate) struct Package<'g, 'a> {
 }
 
 /// The packages of groups of requirements, sorted by their names.
-pub(crate) fn packages_of<'g, 'a>(
+pub(crate) fn packages_of<'a>(
     alloc: Global,
-    groups: &'g Groups<'a>,
-) -> Result<Vec<Package<'g, 'a>>, AllocError>
+    groups: &Groups<'a>,
+) -> Result<Vec<Package<'a>>, AllocError>
     requires { (all : List Front) × AreGroups all groups.now }
     ensures packages { IfOk result (λ packages. (all : List Front) → AreGroups all groups.now →
         AreNew all packages.items) }
@@ -46,34 +46,46 @@ pub(crate) fn packages_of<'g, 'a>(
 {
     let mut packages = Vec::new(alloc);
     for entry in groups.iter() {
-        packages.push(package_of(&entry.1.asks))?;
+        let wanted = package_of(alloc, &entry.1.asks)?;
+        packages.push(wanted)?;
     }
     Ok(packages)
 }
 
 /// The package of these requirements, of which no candidate was read.
-fn package_of<'g, 'a>(asks: &'g [Ask<'a>]) -> Package<'g, 'a>
+fn package_of<'a>(alloc: Global, asks: &[Ask<'a>]) -> Result<Package<'a>, AllocError>
     requires { 0 < length asks.now }
-    ensures name { (q : List ℕ) → list_all (is_of q) (asks_seen asks.now) ≡ true → result.name.now ≡ q }
-    ensures asks { result.asks.now ≡ asks.now }
-    ensures best { result.best ≡ None }
-    ensures sound { IsSound result }
+    ensures name { IfOk result (λ wanted. (q : List ℕ) →
+        list_all (is_of q) (asks_seen asks.now) ≡ true → wanted.name.now ≡ q) }
+    ensures asks { IfOk result (λ wanted. wanted.asks.items ≡ asks.now) }
+    ensures best { IfOk result (λ wanted. wanted.best ≡ None) }
+    ensures sound { IfOk result IsSound }
 {
-    Package {
+    Ok(Package {
         name: asks[0].name,
-        asks,
+        asks: copied(alloc, asks)?,
         direct: is_direct(asks),
         prerelease: names_prerelease(asks),
         tested: 0,
         range: None,
         best: None,
+    })
+}
+
+fn copied<'a>(alloc: Global, asks: &[Ask<'a>]) -> Result<Vec<Ask<'a>>, AllocError>
+    ensures { IfOk result (λ copies. copies.items ≡ asks.now) }
+{
+    let mut copies = Vec::with_capacity(alloc, asks.len())?;
+    for ask in asks {
+        copies.push(*ask)?;
     }
+    Ok(copies)
 }
 
 /// The place of the package of this name. `before` is the place that is tried first. With n packages that are
 /// O(log n) comparisons of names.
 pub(crate) fn place_of(
-    packages: &[Package<'_, '_>],
+    packages: &[Package<'_>],
     before: usize,
     name: &PackageName,
 ) -> Option<usize>
@@ -83,7 +95,7 @@ pub(crate) fn place_of(
     if before < packages.len() && packages[before].name == name {
         return Some(before);
     }
-    match packages.binary_search_by(|package| package.name.cmp(name)) {
+    match packages.binary_search_by(|other| other.name.cmp(name)) {
         Ok(place) => Some(place),
         Err(_) => None,
     }

@@ -24,9 +24,9 @@ use std::alloc::{AllocError, Global};
 /// The row of each package, with the candidates that they select.
 pub(crate) fn selection_of(
     alloc: Global,
-    packages: Vec<Package<'_, '_>>,
+    packages: Vec<Package<'_>>,
 ) -> Result<Selection, AllocError>
-    requires { AreSound packages.entry.items }
+    requires { AreSound packages.items }
     ensures selected { IfOk result (λ selection. (admits : Admits) (all : List Front) (read : List Candidate) →
         HaveBests admits all read packages.entry.items →
         IsSelection admits all read selection.candidates.items (map row_seen selection.answer.rows.items)) }
@@ -48,18 +48,18 @@ pub(crate) fn selection_of(
 /// The row of a package, whose best candidate is appended to the selected ones.
 fn row_of(
     alloc: Global,
-    wanted: Package<'_, '_>,
+    wanted: Package<'_>,
     candidates: &mut Vec<Candidate>,
 ) -> Result<Row, AllocError>
     ensures name { IfOk result (λ row. row.package ≡ wanted.entry.name.now) }
     ensures extras_rise { IfOk result (λ row. IsStrictlySortedBy (slice_cmp nat_cmp) row.extras.items) }
     ensures extras_are { IfOk result (λ row. (extra : List ℕ) → list_any (bytes_eq extra) row.extras.items
-        ≡ list_any (has_extra extra) (asks_seen wanted.entry.asks.now)) }
+        ≡ list_any (has_extra extra) (asks_seen wanted.entry.asks.items)) }
     ensures outcome { IfOk result (λ row. IsKeptAs wanted.entry.direct wanted.entry.best
         candidates.old.items candidates.new.items row.outcome) }
 {
     let name = wanted.name.try_clone(alloc)?;
-    let extras = extras_of(alloc, wanted.asks)?;
+    let extras = extras_of(alloc, &wanted.asks)?;
     let outcome = outcome_of(wanted.direct, wanted.best, candidates)?;
     Ok(Row {
         package: name,
