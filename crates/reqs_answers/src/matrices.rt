@@ -188,8 +188,14 @@ fn matrix_text(
         (PassesIn most interner.new.nodes vars.now requirements.old.items texts) result }
 {
     let extras = read_extras(alloc, extras)?;
-    let requirements =
-        requirements_within(alloc, Input::First, requirements, interner, vars, most)?;
+    let requirements = requirements_within(
+        alloc,
+        Input::First,
+        requirements,
+        interner,
+        vars,
+        most,
+    )?;
     matrix_behind(
         alloc,
         requirements,

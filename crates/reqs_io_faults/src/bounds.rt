@@ -47,7 +47,9 @@ pub enum Excess {
         most: usize,
     },
     /// There are more than `most` nodes once lists are compared or a table is made.
-    Nodes { most: usize },
+    Nodes {
+        most: usize,
+    },
     /// The marker of this line has more than `most` clauses.
     ClausesAt {
         input: Input,
@@ -55,9 +57,15 @@ pub enum Excess {
         most: usize,
     },
     /// The marker of this package's difference has more than `most` clauses.
-    ClausesFor { package: PackageName, most: usize },
+    ClausesFor {
+        package: PackageName,
+        most: usize,
+    },
     /// The packages of a list together have more than `most` cases.
-    Cases { input: Input, most: u64 },
+    Cases {
+        input: Input,
+        most: u64,
+    },
 }
 
 impl fmt::Display for Excess {

@@ -292,11 +292,13 @@ impl RunFault {
                 error,
             },
             RequirementsError::NumberAtEnd { number } => RunFault::NumberAtEnd { input, number },
-            RequirementsError::TooManyNodes { number, most } => RunFault::TooMany(Excess::NodesAt {
-                input,
-                number,
-                most,
-            }),
+            RequirementsError::TooManyNodes { number, most } => RunFault::TooMany(
+                Excess::NodesAt {
+                    input,
+                    number,
+                    most,
+                },
+            ),
             RequirementsError::Memory => RunFault::Memory,
         }
     }

@@ -69,8 +69,10 @@ module _ (vars : Variables) (left right : List ℕ) (Declines : Refused (List Li
       → RefusesLists (IsOfLists vars (left ∷ right ∷ [])) Declines (two_lists vars (left ∷ right ∷ [])) fault
       ⊎ PassesNodes vars most nodes (left ∷ right ∷ []) (two_lists vars (left ∷ right ∷ [])) fault
   left_passes (inl h) =
-      inl (inl (of_texts vars (left ∷ right ∷ []) First left fault refl h.0,
-          (refuses_rest (IsOfTexts vars First left) fault (lines_from vars First left) (with_right vars right) h).1))
+      inl (inl (
+        of_texts vars (left ∷ right ∷ []) First left fault refl h.0,
+        (refuses_rest (IsOfTexts vars First left) fault (lines_from vars First left) (with_right vars right) h).1,
+      ))
   left_passes (inr h) = inr (inl (First, h))
 
   pub right_passes : (said : List LineRecord) → lines_from vars First left ≡ Ok said

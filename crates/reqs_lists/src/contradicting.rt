@@ -134,8 +134,14 @@ fn conflicts_answer(
         (ConflictsPass bounds interner.new.nodes vars.now (requirements.old.items ∷ [])) result }
 {
     let most = bounds.nodes;
-    let requirements =
-        requirements_within(alloc, Input::First, requirements, interner, vars, most)?;
+    let requirements = requirements_within(
+        alloc,
+        Input::First,
+        requirements,
+        interner,
+        vars,
+        most,
+    )?;
     conflicts_of(alloc, &requirements, interner, limit, format, most)
 }
 

@@ -22,7 +22,8 @@ use crate::answer::Answer;
 use pep508_tree::Interner;
 use pep508_url::Vars;
 use reqs_io_faults::{
-    Bounds, Excess, Input, RefusedCause, RunFault, Status, read_input, requirements_within, write_answer,
+    Bounds, Excess, Input, RefusedCause, RunFault, Status, read_input, requirements_within,
+    write_answer,
 };
 use reqs_json::{Format, line_of, lines_value};
 use reqtable_normal::{NormalCause, NormalError};
@@ -57,7 +58,15 @@ pub fn normal<R: Read, W: Write>(
     let mut interner = Interner::new(alloc);
     let none = Bounds::none();
     let _ = interner.node_count();
-    match normal_within(alloc, requirements, vars, format, none, &mut interner, output) {
+    match normal_within(
+        alloc,
+        requirements,
+        vars,
+        format,
+        none,
+        &mut interner,
+        output,
+    ) {
         Ok(status) => Ok(status),
         Err(fault) => Err(fault.unbounded()),
     }

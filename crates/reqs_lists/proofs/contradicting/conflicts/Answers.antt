@@ -2,7 +2,12 @@ use Rattle.reqs_lists.proofs.Told.{conflicts_ok, conflicts_err}
 use Rattle.reqs_lists.proofs.contradicting.conflicts.Goals as goal
 
 pub returns-in-Ok-clause-runs : goal.returns-in-Ok-clause-runs
-returns-in-Ok-clause-runs g c = ?
+returns-in-Ok-clause-runs g c =
+    conflicts_ok _ _ _ _ c.args.vars.now c.args.format c.none-none.result c.conflicts_within.new.interner.nodes c.args.limit c.in-Ok.status
+    c.in-Ok.ensures.runs
 
 pub returns-in-Err-clause-runs : goal.returns-in-Err-clause-runs
-returns-in-Err-clause-runs g c = ?
+returns-in-Err-clause-runs g c =
+    rw c.unbounded.ensures
+    (conflicts_err _ _ _ _ c.args.vars.now c.args.format c.none-none.result c.conflicts_within.new.interner.nodes c.args.limit c.in-Err.fault
+    c.in-Err.ensures.runs)
