@@ -100,7 +100,6 @@ returns-in_err-place-clause-grown g c = λ e.
       is_named = subst P c.line_text-line.ensures c.in_ok-candidate.ensures.named;
     }
 
-
 pub loop-index-init : goal.loop-index-init
 loop-index-init g c = record {
   can_next = search rules;
