@@ -1,5 +1,5 @@
 -- What is asked for comes from lines.
-use Rattle.std.proofs.Common.{◌≡◌, ℕ, ◌<◌, List, [], ◌∷◌, length, arith}
+use Rattle.std.proofs.Common.{◌<◌, List, [], ◌∷◌, length, arith}
 use Rattle.std.specs.List.{AllZip}
 use Rattle.pep508_diagram.specs.Question.{Valuation}
 use Rattle.pep508_url.specs.Vars.{Variables}

@@ -1,6 +1,6 @@
 -- Rows whose candidates stand in a list of selected ones have the text of the answer.
-use Rattle.std.proofs.Common.{◌≡◌, ◌∙◌, ℕ, List, [], ◌∷◌, ◌++◌, refl, sym, ap, subst, codes}
-use Rattle.std.specs.List.{AllZip, slice_get}
+use Rattle.std.proofs.Common.{◌≡◌, List, [], ◌∷◌, ◌++◌, refl, ap, subst, codes}
+use Rattle.std.specs.List.{AllZip}
 use Rattle.std.specs.Option.{option_map_or}
 use Rattle.pep440_version.specs.Print.{version_text}
 use Rattle.pep508_requirement_text.specs.FrontReading.{Front}

@@ -1,9 +1,7 @@
 -- What judging returns, as far as candidates were read.
-use Rattle.std.proofs.Common.{◌≡◌, ◌∙◌, ◌++◌, ◌∷◌, [], List, Result, Ok, Err, ap, sym, subst}
-use Rattle.std.specs.List.{AllByRecursion, AllZip}
+use Rattle.std.proofs.Common.{◌≡◌, ◌∙◌, List, Result, Ok, Err, sym, subst}
 use Rattle.std.specs.Result.{IsErrAnd}
 use Rattle.read_outcome.specs.Outcome.{Tells}
-use Rattle.pep508_requirement_text.specs.FrontReading.{Front}
 use Rattle.reqtable_candidates.specs.Candidates.{told_candidates}
 use Rattle.reqtable_candidates.specs.declared.candidates.Candidate.{Candidate}
 use Rattle.reqtable_candidates.specs.declared.candidates.CandidatesError.{CandidatesError}

@@ -1,5 +1,5 @@
 -- Answers with the candidates that they select in a list of their own.
-use Rattle.std.specs.Prelude.{◌≡◌, ℕ, ◌<◌, List, length, Result, Ok, Err}
+use Rattle.std.specs.Prelude.{◌≡◌, ◌<◌, List, length, Result, Ok, Err}
 use Rattle.std.specs.List.{slice_get, AllZip}
 use Rattle.read_outcome.specs.Outcome.{Tells}
 use Rattle.pep508_requirement_text.specs.FrontReading.{Front}

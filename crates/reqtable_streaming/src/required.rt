@@ -84,11 +84,7 @@ fn copied<'a>(alloc: Global, asks: &[Ask<'a>]) -> Result<Vec<Ask<'a>>, AllocErro
 
 /// The place of the package of this name. `before` is the place that is tried first. With n packages that are
 /// O(log n) comparisons of names.
-pub(crate) fn place_of(
-    packages: &[Package<'_>],
-    before: usize,
-    name: &PackageName,
-) -> Option<usize>
+pub(crate) fn place_of(packages: &[Package<'_>], before: usize, name: &PackageName) -> Option<usize>
     requires { AreRising packages.now }
     ensures { Finds packages.now name.now result }
 {

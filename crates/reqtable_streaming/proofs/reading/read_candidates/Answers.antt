@@ -1,22 +1,17 @@
-use Rattle.std.proofs.Common.{◌≡◌, ◌<◌, ◌∙◌, ◌+◌, ◌++◌, ◌∷◌, [], ℕ, List, IsTrue, Ok, Err, true, false, refl, ap, sym, subst, rules, arith}
+use Rattle.std.proofs.Common.{◌≡◌, ◌<◌, ◌∙◌, ◌+◌, ◌++◌, ◌∷◌, [], ℕ, List, IsTrue, Ok, false, refl, ap, sym, subst, rules, arith}
 use Rattle.std.proofs.lemmas.Iterator.Consumers.{YieldsList-at, YieldsList-end, YieldsList-so_far}
 use Rattle.std.proofs.lemmas.Iterator.Consumers.{YieldsList-turn, YieldsList-from_enumerate}
 use Rattle.std.proofs.lemmas.Iterator.Splits.{YieldsList-from_str_split}
-use Rattle.std.specs.List.{AllByRecursion}
 use Rattle.std.specs.Borrow.{Bor}
 use Rattle.std.specs.Str.{trim}
 use Rattle.std.specs.Str.Lines.{strip_carriage_return}
 use Rattle.read_outcome.specs.Outcome.{Tells}
-use Rattle.pep508_requirement_text.specs.FrontReading.{Front}
 use Rattle.reqtable_candidates.specs.TextLines.{is_blank, without_comment, text_lines, each_line}
 use Rattle.reqtable_candidates.specs.CandidateLine.{has_name}
 use Rattle.reqtable_candidates.specs.Candidates.{candidate_at, told_candidates}
-use Rattle.reqtable_candidates.specs.declared.candidates.Candidate.{Candidate}
-use Rattle.reqtable_candidates.proofs.Lines.{lines_of, numbered, seen, lines_all, lines_split, lines_more_kept, lines_more_blank}
+use Rattle.reqtable_candidates.proofs.Lines.{lines_of, numbered, seen, lines_all, lines_split, lines_more_kept}
 use Rattle.reqtable_candidates.proofs.Lines.{each_more, tells_all}
-use Rattle.reqtable_answer.specs.Admission.{Admits, AnswersBy}
-use Rattle.reqtable_streaming.specs.Packages.{AreSound, IsNew, names_of}
-use Rattle.reqtable_streaming.proofs.Best.{KeepsBest, all_begin, each_next, all_ended}
+use Rattle.reqtable_streaming.proofs.Best.{all_begin, each_next, all_ended}
 use Rattle.reqtable_streaming.proofs.reading.read_candidates.Goals as goal
 use Rattle.reqtable_streaming.proofs.Read.{judges_err}
 
@@ -99,7 +94,6 @@ returns-in_err-place-clause-grown g c = λ e.
       are_candidates = c.loop-index.invariant.read.1;
       is_named = subst P c.line_text-line.ensures c.in_ok-candidate.ensures.named;
     }
-
 
 pub loop-index-init : goal.loop-index-init
 loop-index-init g c = record {

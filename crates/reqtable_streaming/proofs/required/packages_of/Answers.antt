@@ -1,4 +1,4 @@
-use Rattle.std.proofs.Common.{◌≡◌, ◌∙◌, ◌++◌, ◌∷◌, ◌<◌, [], ℕ, List, true, Some, is_some, sym, ap, subst, map, filter, length, rules}
+use Rattle.std.proofs.Common.{◌≡◌, ◌∙◌, ◌++◌, ◌∷◌, [], ℕ, List, Some, is_some, sym, ap, subst, map, filter, rules}
 use Rattle.std.specs.List.{list_any, list_all, AllByRecursion}
 use Rattle.std.specs.List.Sorted.{IsStrictlySortedBy}
 use Rattle.std.specs.Option.{option_map_or}
@@ -18,7 +18,7 @@ use Rattle.reqtable_answer.specs.Says.{asks_seen}
 use Rattle.reqtable_answer.proofs.Packages.{by_name_total, names, names_rise, names_found}
 use Rattle.reqtable_answer.proofs.ByPackage.{all_pass, group_some}
 use Rattle.reqtable_streaming.specs.declared.required.Package.{Package}
-use Rattle.reqtable_streaming.specs.Packages.{AreGroups, AreSound, IsNew, IsSound, names_of}
+use Rattle.reqtable_streaming.specs.Packages.{AreGroups, IsNew, IsSound, names_of}
 use Rattle.reqtable_streaming.proofs.Lists.{all_more}
 use Rattle.reqtable_streaming.proofs.Counting.{any_some}
 use Rattle.reqtable_streaming.proofs.required.packages_of.Goals as goal

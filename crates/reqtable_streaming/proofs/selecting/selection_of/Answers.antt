@@ -1,13 +1,12 @@
-use Rattle.std.proofs.Common.{◌≡◌, ◌∙◌, ◌++◌, ◌∷◌, [], List, map, length, refl, sym, ap, subst, append-nil, append_assoc, arith, rules}
+use Rattle.std.proofs.Common.{◌≡◌, ◌∙◌, ◌++◌, ◌∷◌, [], List, map, length, sym, ap, subst, append-nil, append_assoc, arith, rules}
 use Rattle.std.proofs.lemmas.List.{map-append, nil_from_length}
 use Rattle.std.specs.List.{AllByRecursion, AllZip}
 use Rattle.std.specs.Vec.Iter.{into_iter_items}
-use Rattle.reqtable_candidates.specs.declared.candidates.Candidate.{Candidate}
 use Rattle.reqtable_answer.specs.Answer.{RowRecord}
 use Rattle.reqtable_answer.specs.Rows.{row_seen, IsTakenBelow}
 use Rattle.reqtable_answer.proofs.ByPackage.{all_rows}
 use Rattle.reqtable_streaming.specs.declared.required.Package.{Package}
-use Rattle.reqtable_streaming.specs.Packages.{AreSound, IsSound, HasBest}
+use Rattle.reqtable_streaming.specs.Packages.{IsSound, HasBest}
 use Rattle.reqtable_streaming.proofs.Lists.{all_behind, all_first}
 use Rattle.reqtable_streaming.proofs.Rows.{IsMade, made, one_more, grown, below_new, all_below, selection}
 use Rattle.reqtable_streaming.proofs.selecting.selection_of.Goals as goal

@@ -1,16 +1,13 @@
-use Rattle.std.proofs.Common.{◌≡◌, ◌∙◌, List, Ok, inl, inr, sym, ap, subst, map}
-use Rattle.std.specs.List.{list_any, AllByRecursion}
+use Rattle.std.proofs.Common.{◌∙◌, inr, sym, ap, subst}
+use Rattle.std.specs.List.{list_any}
 use Rattle.std.specs.List.Sorted.{IsStrictlySortedBy}
 use Rattle.std.specs.Ordering.{nat_cmp}
 use Rattle.std.specs.Cmp.Lexicographic.{slice_cmp}
 use Rattle.std.specs.Str.{bytes_eq}
-use Rattle.pep508_requirement_text.specs.FrontReading.{Front}
 use Rattle.reqtable_answer.specs.Says.{asks_seen}
-use Rattle.reqtable_answer.specs.Rows.{row_seen}
 use Rattle.reqtable_answer.proofs.Alike.{same_answer}
 use Rattle.reqtable_answer.proofs.Said.{said_alike}
 use Rattle.reqtable_streaming.specs.Packages.{AreGroups, AreNew, HaveBests}
-use Rattle.reqtable_streaming.specs.Selection.{IsSelection}
 use Rattle.reqtable_streaming.proofs.Counting.{some_required, some_asks}
 use Rattle.reqtable_streaming.proofs.streaming.selected.Goals as goal
 
