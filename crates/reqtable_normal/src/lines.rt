@@ -58,9 +58,9 @@ pub fn normal(
     normal_text(alloc, requirements, interner, None)
 }
 
-/// The normal text of a requirement list, as `normal` gives it, if no line's marker has more than
-/// `most_clauses` clauses: as many comparisons joined by `and` as are printed with `or` between them, before
-/// needless ones are left out. A marker of n terms can have 2^n clauses and as long a text.
+/// The normal text of a requirement list, as `normal` gives it, where the marker of each line has at most
+/// `most_clauses` clauses. A clause is what is printed between two `or`; counted are those before needless
+/// ones are left out. The marker `(a or b) and (c or d)` has four, and n such brackets have 2^n.
 ///
 /// Counts each line's clauses before any of them is made, and goes no further than one clause too many.
 ///
