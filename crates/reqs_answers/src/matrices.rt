@@ -271,7 +271,7 @@ fn table_of(
             limit,
             package,
         }),
-        Err(TableError::TooManyCasesInAll | TableError::Memory) => Err(RunFault::Memory),
+        Err(TableError::Memory) => Err(RunFault::Memory),
     }
 }
 

@@ -23,7 +23,7 @@ use Rattle.reqs_io_faults.specs.declared.fault.RunFault.TheVariants.{Shape}
 use Rattle.reqs_io_faults.specs.declared.fault.RunFault.TheVariants.{Member, Version, Candidate, TooManyCases}
 use Rattle.reqs_io_faults.specs.declared.fault.RunFault.TheVariants.{Refused, TooMany}
 use Rattle.reqs_io_faults.specs.declared.bounds.Excess.{Excess}
-use Rattle.reqs_io_faults.specs.declared.bounds.Excess.TheVariants.{NodesAt, Nodes, ClausesAt, ClausesFor, Cases}
+use Rattle.reqs_io_faults.specs.declared.bounds.Excess.TheVariants.{NodesAt, Nodes, ClausesAt, ClausesFor}
 
 -- an input, by its place on the command line
 abbrev pub input_words : Input → List ℕ
@@ -69,7 +69,6 @@ excess_words (NodesAt input number most) = codes "more than " ++ decimal most ++
 excess_words (Nodes most) = codes "more than " ++ decimal most ++ codes " nodes"
 excess_words (ClausesAt input number most) = codes "more than " ++ decimal most ++ codes " clauses"
 excess_words (ClausesFor name most) = codes "more than " ++ decimal most ++ codes " clauses for " ++ name
-excess_words (Cases input most) = codes "more than " ++ decimal most ++ codes " cases in all"
 
 -- the same with its place
 abbrev pub excess_text : (Input → List ℕ) → Excess → List ℕ
@@ -79,7 +78,6 @@ excess_text said (Nodes most) = excess_words (Nodes most)
 excess_text said (ClausesAt input number most) =
     line_text (said input) number (excess_words (ClausesAt input number most))
 excess_text said (ClausesFor name most) = excess_words (ClausesFor name most)
-excess_text said (Cases input most) = input_text (said input) (excess_words (Cases input most))
 
 -- the start of the message for an invalid line: the place in bytes of what is at fault
 abbrev pub requirement_front : List ℕ → ℕ → Pep508Error Verbatim VerbatimUrlError → List ℕ

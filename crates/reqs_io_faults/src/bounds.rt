@@ -7,7 +7,7 @@ ghost use Rattle.std.specs.Prelude.{◌≡◌, map, IfOk, string_bytes};
 ghost use Rattle.reqs_io_faults.specs.Ends.{of_input};
 ghost use Rattle.reqs_io_faults.specs.FaultText.{excess_text, excess_words};
 
-use crate::fault::{Input, at, at_line};
+use crate::fault::{Input, at_line};
 use pep508_name::PackageName;
 use std::alloc::{AllocError, Global};
 use std::error::Error;
@@ -20,19 +20,16 @@ pub struct Bounds {
     pub nodes: usize,
     /// Clauses in a marker that is written: comparisons joined by `and`, between `or`s.
     pub clauses: usize,
-    /// Cases of all packages of a list together.
-    pub cases: u64,
 }
 
 impl Bounds {
     /// The greatest numbers, which nothing passes that has room in memory.
     pub fn none() -> Bounds
-        ensures { result ≡ record { nodes = usize.MAX; clauses = usize.MAX; cases = u64.MAX } }
+        ensures { result ≡ record { nodes = usize.MAX; clauses = usize.MAX } }
     {
         Bounds {
             nodes: usize::MAX,
             clauses: usize::MAX,
-            cases: u64::MAX,
         }
     }
 }
@@ -61,11 +58,6 @@ pub enum Excess {
         package: PackageName,
         most: usize,
     },
-    /// The packages of a list together have more than `most` cases.
-    Cases {
-        input: Input,
-        most: u64,
-    },
 }
 
 impl fmt::Display for Excess {
@@ -81,7 +73,6 @@ impl fmt::Display for Excess {
             Excess::ClausesFor { package, most } => {
                 write!(f, "more than {most} clauses for {package}")
             }
-            Excess::Cases { most, .. } => write!(f, "more than {most} cases in all"),
         }
     }
 }
@@ -102,7 +93,6 @@ impl Excess {
             Excess::ClausesAt { input, number, .. } => {
                 at_line(alloc, input.path(paths), *number, words.as_str())
             }
-            Excess::Cases { input, .. } => at(alloc, input.path(paths), words.as_str()),
             Excess::Nodes { .. } => Ok(words),
             Excess::ClausesFor { .. } => Ok(words),
         }

@@ -4,7 +4,7 @@ ghost use Rattle.std.specs.Prelude.{Some};
 ghost use Rattle.std.specs.Fmt.{DisplaysOnOk};
 ghost use Rattle.pep508_environment.specs.Environment.{member_name};
 ghost use Rattle.reqs_io_faults.specs.FaultText.{input_words, member_text, requirement_front};
-ghost use Rattle.reqs_io_faults.specs.FaultText.{requirement_text, line_text, input_text};
+ghost use Rattle.reqs_io_faults.specs.FaultText.{requirement_text, line_text};
 ghost use Rattle.reqs_io_faults.specs.FaultText.{excess_text, excess_words};
 ghost use Rattle.reqs_io_faults.specs.FaultText.{fault_text};
 ghost use Rattle.reqs_io_faults.specs.Faults.{IsOfEnvironment};
@@ -113,7 +113,6 @@ fn write_excess<W: fmt::Write>(excess: &Excess, f: &mut fmt::Formatter<W>) -> fm
     match excess {
         Excess::NodesAt { input, number, .. } => write_at_line(*input, *number, excess, f),
         Excess::ClausesAt { input, number, .. } => write_at_line(*input, *number, excess, f),
-        Excess::Cases { input, .. } => write_at_input(*input, excess, f),
         Excess::Nodes { .. } => write!(f, "{excess}"),
         Excess::ClausesFor { .. } => write!(f, "{excess}"),
     }
@@ -130,18 +129,6 @@ fn write_at_line<W: fmt::Write>(
         (Some (line_text (input_words input) number (excess_words excess.now))) f.new }
 {
     write!(f, "{input}: line {number}: {excess}")
-}
-
-/// Writes what an input has more of.
-fn write_at_input<W: fmt::Write>(
-    input: Input,
-    excess: &Excess,
-    f: &mut fmt::Formatter<W>,
-) -> fmt::Result
-    ensures { DisplaysOnOk W.write_str_gives f.old result
-        (Some (input_text (input_words input) (excess_words excess.now))) f.new }
-{
-    write!(f, "{input}: {excess}")
 }
 
 /// Writes the text of a fault of an environment.

@@ -448,7 +448,7 @@ pub(crate) fn shape_text(wanted: JsonShape) -> &'static str
 }
 
 /// The message for a fault of an input as a whole.
-pub(crate) fn at(alloc: Global, path: &str, fault: &str) -> Result<String, AllocError>
+fn at(alloc: Global, path: &str, fault: &str) -> Result<String, AllocError>
     ensures { IfOk result (λ text. string_bytes text ≡ input_text path.now fault.now) }
 {
     format!(in alloc; "{path}: {fault}")

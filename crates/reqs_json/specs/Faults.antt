@@ -15,7 +15,7 @@ use Rattle.reqs_io_faults.specs.declared.fault.RunFault.TheVariants.{Shape}
 use Rattle.reqs_io_faults.specs.declared.fault.RunFault.TheVariants.{Member, Version, Candidate, TooManyCases}
 use Rattle.reqs_io_faults.specs.declared.fault.RunFault.TheVariants.{Refused, TooMany}
 use Rattle.reqs_io_faults.specs.declared.bounds.Excess.{Excess}
-use Rattle.reqs_io_faults.specs.declared.bounds.Excess.TheVariants.{NodesAt, Nodes, ClausesAt, ClausesFor, Cases}
+use Rattle.reqs_io_faults.specs.declared.bounds.Excess.TheVariants.{NodesAt, Nodes, ClausesAt, ClausesFor}
 use Rattle.reqs_io_faults.specs.FaultText.{shape_text, refused_text, excess_words, requirement_front}
 use Rattle.reqs_json.specs.declared.faults.Place.{Place}
 use Rattle.reqs_json.specs.Lines.{number_of, value_or_null, line_of}
@@ -28,7 +28,6 @@ excess_kind (NodesAt input number most) = codes "too-many-nodes"
 excess_kind (Nodes most) = codes "too-many-nodes"
 excess_kind (ClausesAt input number most) = codes "too-many-clauses"
 excess_kind (ClausesFor name most) = codes "too-many-clauses"
-excess_kind (Cases input most) = codes "too-many-cases"
 
 -- the kind of a fault, in one word
 abbrev pub kind_of : RunFault → List ℕ
@@ -56,7 +55,6 @@ excess_input (NodesAt input number most) = Some input
 excess_input (Nodes most) = None
 excess_input (ClausesAt input number most) = Some input
 excess_input (ClausesFor name most) = None
-excess_input (Cases input most) = Some input
 
 -- the input that a fault is in, if it is in one
 abbrev pub input_in : RunFault → Option Input
@@ -140,7 +138,6 @@ excess_place said (NodesAt input number most) = line_place (said input) number
 excess_place said (Nodes most) = []
 excess_place said (ClausesAt input number most) = line_place (said input) number
 excess_place said (ClausesFor name most) = []
-excess_place said (Cases input most) = said input ++ codes ": "
 
 abbrev pub place_text : (Input → List ℕ) → RunFault → List ℕ
 place_text said (Read input) = said input ++ codes ": "

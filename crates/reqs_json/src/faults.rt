@@ -188,9 +188,7 @@ fn excess_input(excess: &Excess) -> Option<Input>
     ensures { result ≡ excess_input excess.now }
 {
     match excess {
-        Excess::NodesAt { input, .. }
-        | Excess::ClausesAt { input, .. }
-        | Excess::Cases { input, .. } => Some(*input),
+        Excess::NodesAt { input, .. } | Excess::ClausesAt { input, .. } => Some(*input),
         Excess::Nodes { .. } | Excess::ClausesFor { .. } => None,
     }
 }
@@ -283,6 +281,5 @@ fn excess_kind(excess: &Excess) -> &'static str
     match excess {
         Excess::NodesAt { .. } | Excess::Nodes { .. } => "too-many-nodes",
         Excess::ClausesAt { .. } | Excess::ClausesFor { .. } => "too-many-clauses",
-        Excess::Cases { .. } => "too-many-cases",
     }
 }

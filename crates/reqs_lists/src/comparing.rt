@@ -124,14 +124,7 @@ pub fn same_within<L: Read, R: Read, W: Write>(
     let mut left = read_input(alloc, Input::First, left)?;
     let mut right = read_input(alloc, Input::Second, right)?;
     let answer = same_answer(
-        alloc,
-        &mut left,
-        &mut right,
-        vars,
-        limit,
-        format,
-        bounds,
-        interner,
+        alloc, &mut left, &mut right, vars, limit, format, bounds, interner,
     )?;
     write_answer(output, answer.text.as_str(), answer.status)
 }
@@ -245,20 +238,23 @@ fn same_value(alloc: Global) -> Result<Value, AllocError>
 fn difference_within(
     alloc: Global,
     format: Format,
-    package: PackageName,
+    name: PackageName,
     tree: MarkerTree,
     interner: &Interner,
     most: usize,
 ) -> Result<String, RunFault>
     requires { IsTree interner.now.nodes tree }
-    ensures told { TellsWithin format most package (diagram_of interner.now.nodes tree) result }
+    ensures told { TellsWithin format most name (diagram_of interner.now.nodes tree) result }
     ensures canonical { IsCanonical (diagram_of interner.now.nodes tree) }
     ensures short { HasShortVersions (diagram_of interner.now.nodes tree) }
 {
     if has_more_clauses(alloc, tree, interner, most)? {
-        return Err(RunFault::TooMany(Excess::ClausesFor { package, most }));
+        return Err(RunFault::TooMany(Excess::ClausesFor {
+            package: name,
+            most,
+        }));
     }
-    Ok(difference_in(alloc, format, &package, tree, interner)?)
+    Ok(difference_in(alloc, format, &name, tree, interner)?)
 }
 
 /// The text of a difference in a format: the package, and where the tree holds.

@@ -192,6 +192,6 @@ fn found_within(
             limit,
             package,
         }),
-        Err(TableError::TooManyCasesInAll | TableError::Memory) => Err(RunFault::Memory),
+        Err(TableError::Memory) => Err(RunFault::Memory),
     }
 }

@@ -160,7 +160,7 @@ fn side_table(
     match packages_table(alloc, requirements, names, interner, limit) {
         Ok(table) => Ok(table),
         Err(TableError::TooManyCases { package }) => Err(SameError::TooManyCases { side, package }),
-        Err(TableError::TooManyCasesInAll | TableError::Memory) => Err(SameError::Memory),
+        Err(TableError::Memory) => Err(SameError::Memory),
     }
 }
 

@@ -31,7 +31,7 @@ use Rattle.reqtable_cases.specs.Lines.{line_marks, marked, numbers_of, asked_by}
 use Rattle.reqtable_cases.specs.Usable.{IsRangeOf}
 use Rattle.reqtable_cases.specs.Conflicts.{IsConflict, told_of, AreConflicts}
 use Rattle.reqtable_table.specs.declared.table.TableError.{TableError}
-use Rattle.reqtable_table.specs.declared.table.TableError.TheVariants.{TooManyCases, TooManyCasesInAll, Memory}
+use Rattle.reqtable_table.specs.declared.table.TableError.TheVariants.{TooManyCases, Memory}
 use Rattle.reqtable_table.specs.Cases.{Builds, HasItsCases, IsCaseOfLines, AreCasesOf, cases_under}
 use Rattle.reqtable_table.specs.Kept.{KeptCase, KeptPackage, KeepsAll}
 use Rattle.reqtable_table_laws.proofs.CasesOfLines.{cases_of_lines, none_of_lines}
@@ -351,5 +351,4 @@ pub refused_too : {X : Type 0} (view : X → List ConflictRecord) (vars : Variab
     Builds limit nodes (said_among names said) (Err error) → FindsConflicts view limit said (Err error)
 refused_too view vars old nodes limit lines said names (TooManyCases name) stand are first =
     first_too_many limit names said (few_others vars old limit lines said names stand are) name first
-refused_too view vars old nodes limit lines said names TooManyCasesInAll stand are h = absurd h
 refused_too view vars old nodes limit lines said names Memory stand are first = tt

@@ -15,7 +15,7 @@ use Rattle.reqtable_requirements.specs.Asks.{lines_of}
 use Rattle.reqtable_cases.specs.Lines.{HasTooMany, IsFirstTooMany}
 use Rattle.reqtable_cases.specs.Conflicts.{AreConflicts}
 use Rattle.reqtable_table.specs.declared.table.TableError.{TableError}
-use Rattle.reqtable_table.specs.declared.table.TableError.TheVariants.{TooManyCases, TooManyCasesInAll, Memory}
+use Rattle.reqtable_table.specs.declared.table.TableError.TheVariants.{TooManyCases, Memory}
 use Rattle.reqtable_table.specs.Kept.{KeptCase}
 use Rattle.reqtable_conflicts.specs.declared.contradicting.Conflict.{Conflict}
 
@@ -47,7 +47,6 @@ FindsConflicts view limit said (Ok found) =
     ((name : List ℕ) → HasTooMany limit said name → ⊥) × StandByName (view found)
     × ((name : List ℕ) → AreConflicts (lines_of name said) (told_under name (view found)))
 FindsConflicts view limit said (Err (TooManyCases name)) = IsFirstTooMany limit said name
-FindsConflicts view limit said (Err TooManyCasesInAll) = ⊥
 FindsConflicts view limit said (Err Memory) = Unit {0}
 
 -- a case has lines and a range without any point

@@ -5,10 +5,7 @@ pub mod Said
 pub mod Ranging
 pub mod Counting
 pub mod Firsts
-pub mod Rooms
-pub mod Sums
 pub mod Built
-pub mod InAll
 pub mod Lookup
 pub mod RowsOfLines
 pub mod AskedLines

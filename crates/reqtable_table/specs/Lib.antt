@@ -1,5 +1,4 @@
 pub mod Kept
-pub mod InAll
 pub mod Casing
 pub mod Cases
 pub mod KeptLines

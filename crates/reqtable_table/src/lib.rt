@@ -5,7 +5,6 @@ mod asked;
 mod casing;
 mod choosing_by_case;
 mod kept;
-mod room;
 mod row;
 mod runs;
 mod table;
