@@ -27,8 +27,6 @@ use Rattle.reqs_io_faults.specs.declared.fault.Status.TheVariants.{Answered}
 use Rattle.reqs_io_faults.specs.Faults.{Cause, IsOfTexts, Refuses}
 use Rattle.reqs_io_faults.specs.Inputs.{environments_from}
 use Rattle.reqs_io_faults.specs.Ends.{of_input, Runs}
-use Rattle.reqs_io_faults.specs.Within.{PassesAt, Outgrows, AnswersWithin, RefusesOr}
-use Rattle.reqs_io_faults.specs.declared.bounds.Bounds.{Bounds}
 use Rattle.reqs_io.specs.Front.{WritesWhole, AppendsFront}
 use Rattle.reqs_pieces.specs.Pieces.{PiecesRecord}
 use Rattle.reqs_answers.specs.Check.{on_request}
@@ -140,26 +138,4 @@ abbrev pub RunsMatrix : {W : Type 0} → Format → ℕ → Variables → List (
     → Option (List ℕ) → Option (List ℕ) → (W → Option (List ℕ)) → W → W → Result Status RunFault → Type 0
 RunsMatrix format limit vars extras requirements environments candidates contents old new result =
     Runs (MatrixAnswersAs format limit vars extras) (MatrixRefuses limit vars extras)
-    (requirements ∷ environments ∷ candidates ∷ []) contents old new result
-
--- ---- with bounds
-
--- a bound on the nodes was passed: at a line of the requirements, or else once all texts were parsed
-abbrev pub PassesIn : ℕ → List NodeRecord → Variables → List ℕ → MatrixTexts → RunFault → Type 0
-PassesIn most nodes vars requirements texts fault =
-    PassesAt vars First most nodes requirements fault ⊎ IsRead texts (λ read. Outgrows most nodes fault)
-
-abbrev pub MatrixPasses : Bounds → List NodeRecord → Variables → List (List ℕ) → List (List ℕ) → RunFault
-    → Type 0
-MatrixPasses bounds nodes vars extras inputs =
-    PassesIn bounds.nodes nodes vars (of_input inputs First) (matrix_texts vars extras inputs)
-
--- `matrix` ends with this result where the bounds are these, with these nodes afterwards
-abbrev pub RunsMatrixWithin : {W : Type 0} → Bounds → List NodeRecord → Format → ℕ → Variables
-    → List (List ℕ) → Option (List ℕ) → Option (List ℕ) → Option (List ℕ) → (W → Option (List ℕ)) → W → W
-    → Result Status RunFault → Type 0
-RunsMatrixWithin bounds nodes format limit vars extras requirements environments candidates contents old new
-    result =
-    Runs (AnswersWithin bounds.nodes nodes (MatrixAnswersAs format limit vars extras))
-    (RefusesOr (MatrixPasses bounds nodes vars extras) (MatrixRefuses limit vars extras))
     (requirements ∷ environments ∷ candidates ∷ []) contents old new result

@@ -5,7 +5,7 @@
 //! the very definition by which `check` is stated; that it is what `check` writes is then a law, since an
 //! answer has one text.
 
-ghost use Rattle.std.specs.Prelude.{◌≡◌, ◌≢◌, ◌≤◌, ◌++◌, ◌∷◌, [], List, length, map, codes};
+ghost use Rattle.std.specs.Prelude.{◌≡◌, ◌≢◌, ◌++◌, ◌∷◌, [], List, map, codes};
 ghost use Rattle.std.specs.Prelude.{IfErr, IfOk, OnOk, string_bytes};
 ghost use Rattle.std.specs.List.{AllZip, AllByRecursion};
 ghost use Rattle.pep508_url.specs.Vars.{Variables};
@@ -19,12 +19,10 @@ ghost use Rattle.reqtable_table.specs.Runs.{AreRunsOf, AreTold};
 ghost use Rattle.reqs_io_faults.specs.declared.fault.Input.TheVariants.{First, Second};
 ghost use Rattle.reqs_io_faults.specs.Faults.{IsPlain, IsOfTexts};
 ghost use Rattle.reqs_io_faults.specs.Inputs.{environments_from};
-ghost use Rattle.reqs_io_faults.specs.Within.{Bounded, Outgrows};
 ghost use Rattle.reqs_answers.specs.Check.{on_request};
 ghost use Rattle.reqs_json.specs.declared.format.Format.TheVariants.{Json};
 ghost use Rattle.reqs_answers.specs.Matrix.{environment_line, IsMatrixText, IsMatrixIn, AreRead, AnswersAll};
-ghost use Rattle.reqs_answers.specs.Matrix.{TablesAs, RunsMatrix, WritesText, IsRead, PassesIn};
-ghost use Rattle.reqs_answers.specs.Matrix.{RunsMatrixWithin};
+ghost use Rattle.reqs_answers.specs.Matrix.{TablesAs, RunsMatrix, WritesText};
 ghost use Rattle.reqs_answers.specs.Texts.{behind_lines, texts_of};
 
 use crate::admitting::is_admitted;
@@ -34,8 +32,8 @@ use pep508_name::ExtraName;
 use pep508_tree::Interner;
 use pep508_url::Vars;
 use reqs_io_faults::{
-    Bounds, Excess, Input, RunFault, Status, read_candidates, read_environments, read_extras,
-    read_input, requirements_within,
+    Input, RunFault, Status, read_candidates, read_environments, read_extras, read_input,
+    read_requirements,
 };
 use reqs_json::{Format, environment_text};
 use reqs_pieces::Pieces;
@@ -83,58 +81,6 @@ pub fn matrix<L: Read, E: Read, C: Read, W: Write>(
     // A refused command has written nothing.
     ensures unwritten { IfErr result (λ fault. fault ≢ RunFault.Write → output.new ≡ output.old) }
 {
-    let mut interner = Interner::new(alloc);
-    let none = Bounds::none();
-    let _ = interner.node_count();
-    match matrix_within(
-        alloc,
-        requirements,
-        environments,
-        candidates,
-        extras,
-        vars,
-        limit,
-        format,
-        none,
-        &mut interner,
-        output,
-    ) {
-        Ok(status) => Ok(status),
-        Err(fault) => Err(fault.unbounded()),
-    }
-}
-
-/// Writes the answers for environments as `matrix` does, unless that passes a bound. Only the bound on nodes
-/// matters.
-///
-/// The trees are made in `interner`, best a fresh one by `Interner::with_most(alloc, bounds.nodes)`, which also
-/// stops in the middle of a tree.
-///
-/// # Errors
-///
-/// Those of `matrix`; and in `RunFault::TooMany`, once the whole list of requirements is known to be valid,
-/// `Excess::NodesAt` for the first line after whose tree there are more than `bounds.nodes` nodes, or
-/// `Excess::Nodes` if there are more once the table is made. Nothing is written then.
-pub fn matrix_within<L: Read, E: Read, C: Read, W: Write>(
-    alloc: Global,
-    requirements: &mut L,
-    environments: &mut E,
-    candidates: &mut C,
-    extras: &[&str],
-    vars: &Vars,
-    limit: u64,
-    format: Format,
-    bounds: Bounds,
-    interner: &mut Interner,
-    output: &mut W,
-) -> Result<Status, RunFault>
-    requires { length interner.old.nodes ≤ bounds.nodes }
-    ensures runs { RunsMatrixWithin bounds interner.new.nodes format limit vars.now (map (λ e. e.now) extras.now)
-        (L.remaining requirements.old) (E.remaining environments.old) (C.remaining candidates.old)
-        W.contents output.old output.new result }
-    // A refused command has written nothing.
-    ensures unwritten { IfErr result (λ fault. fault ≢ RunFault.Write → output.new ≡ output.old) }
-{
     let mut requirements = read_input(alloc, Input::First, requirements)?;
     let mut environments = read_input(alloc, Input::Second, environments)?;
     let mut candidates = read_input(alloc, Input::Third, candidates)?;
@@ -147,8 +93,6 @@ pub fn matrix_within<L: Read, E: Read, C: Read, W: Write>(
         vars,
         limit,
         format,
-        bounds.nodes,
-        interner,
     )?;
     write_text(alloc, &text, output)
 }
@@ -177,35 +121,23 @@ fn matrix_text(
     vars: &Vars,
     limit: u64,
     format: Format,
-    most: usize,
-    interner: &mut Interner,
 ) -> Result<Pieces, RunFault>
-    requires { length interner.old.nodes ≤ most }
-    ensures { let texts = texts_of (environments_from Second) vars.now (map (λ e. e.now) extras.now)
-        requirements.old.items environments.old.items candidates.old.items in
-        Bounded (λ text. AnswersAll (IsOfTexts vars.now First requirements.old.items) format limit text texts)
-        (length interner.new.nodes ≤ most)
-        (PassesIn most interner.new.nodes vars.now requirements.old.items texts) result }
+    ensures { AnswersAll (IsOfTexts vars.now First requirements.old.items) format limit result
+        (texts_of (environments_from Second) vars.now (map (λ e. e.now) extras.now)
+        requirements.old.items environments.old.items candidates.old.items) }
 {
     let extras = read_extras(alloc, extras)?;
-    let requirements = requirements_within(
-        alloc,
-        Input::First,
-        requirements,
-        interner,
-        vars,
-        most,
-    )?;
+    let mut interner = Interner::new(alloc);
+    let requirements = read_requirements(alloc, Input::First, requirements, &mut interner, vars)?;
     matrix_behind(
         alloc,
         requirements,
-        interner,
+        &mut interner,
         &extras,
         environments,
         candidates,
         limit,
         format,
-        most,
     )
 }
 
@@ -219,19 +151,16 @@ fn matrix_behind(
     candidates: &mut Vec<u8>,
     limit: u64,
     format: Format,
-    most: usize,
 ) -> Result<Pieces, RunFault>
     requires { AreRead interner.old.nodes requirements }
     ensures { (vars : Variables) (said : List LineRecord) →
         AllZip (StandsFor vars interner.old.nodes) requirements said →
-        let texts = behind_lines (environments_from Second) extras.now said
-        environments.old.items candidates.old.items in
-        Bounded (λ text. AnswersAll IsPlain format limit text texts) (length interner.new.nodes ≤ most)
-        (λ fault. IsRead texts (λ read. Outgrows most interner.new.nodes fault)) result }
+        AnswersAll IsPlain format limit result (behind_lines (environments_from Second) extras.now said
+        environments.old.items candidates.old.items) }
 {
     let environments = read_environments(alloc, Input::Second, environments)?;
     let candidates = read_candidates(alloc, Input::Third, candidates)?;
-    let mut table = table_of(alloc, requirements, interner, limit, most)?;
+    let mut table = table_of(alloc, requirements, interner, limit)?;
     match answers_text(
         alloc,
         &mut table,
@@ -252,19 +181,13 @@ fn table_of(
     requirements: Requirements,
     interner: &mut Interner,
     limit: u64,
-    most: usize,
 ) -> Result<Table, RunFault>
     requires { AreOfNodes interner.old.nodes requirements }
     ensures { (vars : Variables) (said : List LineRecord) →
         AllZip (StandsFor vars interner.old.nodes) requirements said →
-        Bounded (TablesAs limit interner.new.nodes said) (length interner.new.nodes ≤ most)
-        (Outgrows most interner.new.nodes) result }
+        TablesAs limit interner.new.nodes said result }
 {
-    let built = Table::build(alloc, requirements, interner, limit);
-    if interner.node_count() > most {
-        return Err(RunFault::TooMany(Excess::Nodes { most }));
-    }
-    match built {
+    match Table::build(alloc, requirements, interner, limit) {
         Ok(table) => Ok(table),
         Err(TableError::TooManyCases { package }) => Err(RunFault::TooManyCases {
             input: Input::First,

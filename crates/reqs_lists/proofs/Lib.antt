@@ -6,4 +6,3 @@ pub mod Plain
 pub mod RisingSets
 pub mod Told
 pub mod Trees
-pub mod Long

@@ -1,15 +1,12 @@
 -- The command `conflicts`, from the bytes of a list to those of its conflicts.
-use Rattle.std.specs.Prelude.{◌≡◌, ◌⊎◌, ℕ, Bool, true, false, List, [], ◌∷◌, ◌++◌, map, codes, Option}
-use Rattle.std.specs.Prelude.{Result, Ok, Err, Vec, Global}
+use Rattle.std.specs.Prelude.{◌≡◌, ℕ, Bool, true, false, List, [], ◌∷◌, ◌++◌, map, codes, Option, Result, Ok}
 use Rattle.std.specs.List.{flat_map, join_with_byte}
 use Rattle.std.specs.Fmt.{decimal}
 use Rattle.serde_json.specs.Data.{Data, boolean, string, object, no_members, member}
 use Rattle.pep508_url.specs.Vars.{Variables}
-use Rattle.pep508_tree.specs.Meaning.{NodeRecord}
 use Rattle.reqtable_requirements.specs.LineReading.{LineRecord}
 use Rattle.reqtable_cases.specs.Lines.{IsFirstTooMany}
-use Rattle.reqtable_conflicts.specs.Contradictions.{ConflictRecord, conflict_record, FindsConflicts}
-use Rattle.reqtable_conflicts.specs.declared.contradicting.Conflict.{Conflict}
+use Rattle.reqtable_conflicts.specs.Contradictions.{ConflictRecord, FindsConflicts}
 use Rattle.reqs_json.specs.declared.format.Format.{Format}
 use Rattle.reqs_json.specs.declared.format.Format.TheVariants.{Text, Json}
 use Rattle.reqs_json.specs.Lines.{array_of, number_of, line_of}
@@ -19,9 +16,7 @@ use Rattle.reqs_io_faults.specs.declared.fault.RunFault.TheVariants as run
 use Rattle.reqs_io_faults.specs.declared.fault.Status.{Status}
 use Rattle.reqs_io_faults.specs.declared.fault.Status.TheVariants as status
 use Rattle.reqs_io_faults.specs.Ends.{Runs}
-use Rattle.reqs_io_faults.specs.declared.bounds.Bounds.{Bounds}
-use Rattle.reqs_io_faults.specs.Within.{AnswersWithin, RefusesOr}
-use Rattle.reqs_lists.specs.Lists.{IsOfLists, one_list, IsRead, RefusesLists, PassesNodes}
+use Rattle.reqs_lists.specs.Lists.{IsOfLists, one_list, IsRead, RefusesLists}
 
 -- ---- the text
 
@@ -83,24 +78,4 @@ abbrev pub RunsConflicts : {W : Type 0} → Format → ℕ → Variables → Opt
     → (W → Option (List ℕ)) → W → W → Result Status RunFault → Type 0
 RunsConflicts format limit vars requirements contents old new result =
     Runs (ConflictsAnswerAs format limit vars) (ConflictsRefuse limit vars)
-    (requirements ∷ []) contents old new result
-
--- ---- with bounds
-
--- the conflicts of lines, or why they are refused
-abbrev pub FindsOrRefuses : ℕ → List LineRecord → Result (Vec Conflict Global) RunFault → Type 0
-FindsOrRefuses limit lines (Ok found) =
-    FindsConflicts (λ all. all) limit lines (Ok (map conflict_record found.items))
-FindsOrRefuses limit lines (Err fault) = (fault ≡ run.Memory) ⊎ HasTooManyCases limit lines fault
-
--- a bound was passed: on the nodes
-abbrev pub ConflictsPass : Bounds → List NodeRecord → Variables → List (List ℕ) → RunFault → Type 0
-ConflictsPass bounds nodes vars inputs = PassesNodes vars bounds.nodes nodes inputs (one_list vars inputs)
-
--- `conflicts` ends with this result where the bounds are these, with these nodes afterwards
-abbrev pub RunsConflictsWithin : {W : Type 0} → Bounds → List NodeRecord → Format → ℕ → Variables
-    → Option (List ℕ) → (W → Option (List ℕ)) → W → W → Result Status RunFault → Type 0
-RunsConflictsWithin bounds nodes format limit vars requirements contents old new result =
-    Runs (AnswersWithin bounds.nodes nodes (ConflictsAnswerAs format limit vars))
-    (RefusesOr (ConflictsPass bounds nodes vars) (ConflictsRefuse limit vars))
     (requirements ∷ []) contents old new result

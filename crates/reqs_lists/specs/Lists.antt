@@ -8,7 +8,6 @@ use Rattle.reqtable_candidates.specs.TextLines.{text_lines}
 use Rattle.reqtable_requirements.specs.LineReading.{LineRecord}
 use Rattle.reqtable_requirements.specs.Requirements.{IsErrorIn, StandsFor}
 use Rattle.reqtable_requirements.specs.declared.requirements.Line.{Line}
-use Rattle.reqs_io_faults.specs.declared.fault.Input.{Input}
 use Rattle.reqs_io_faults.specs.declared.fault.Input.TheVariants.{First, Second}
 use Rattle.reqs_io_faults.specs.declared.fault.RunFault.{RunFault}
 use Rattle.reqs_io_faults.specs.declared.fault.RunFault.TheVariants.{Memory}
@@ -16,7 +15,6 @@ use Rattle.reqs_io_faults.specs.declared.fault.Status.{Status}
 use Rattle.reqs_io_faults.specs.Ends.{of_input}
 use Rattle.reqs_io_faults.specs.Faults.{Cause, IsOfInputs, Refuses}
 use Rattle.reqs_io_faults.specs.Inputs.{◌>>=◌, lines_from}
-use Rattle.reqs_io_faults.specs.Within.{PassesAt, Outgrows}
 use Rattle.reqs_lists.specs.declared.answer.Answer.{Answer}
 
 -- the fault is in texts each of which is a list of requirements: its error of an invalid line is that of some
@@ -54,13 +52,6 @@ pub record AreBothRead (nodes : List NodeRecord) (left right : List Line) : Type
 -- lists are parsed to values with this property
 abbrev pub IsRead : {A : Type 0} → Result A Cause → (A → Type 0) → Type 0
 IsRead {A} lists Holds = (read : A) × (lists ≡ Ok read) × Holds read
-
--- a bound on the nodes was passed: at a line of an input, or else once all lists were parsed
-abbrev pub PassesNodes : {A : Type 0} → Variables → ℕ → List NodeRecord → List (List ℕ) → Result A Cause
-    → RunFault → Type 0
-PassesNodes vars most nodes inputs lists fault =
-    ((input : Input) × PassesAt vars input most nodes (of_input inputs input) fault)
-    ⊎ IsRead lists (λ read. Outgrows most nodes fault)
 
 -- ---- answers
 

@@ -9,4 +9,3 @@ pub mod Numbers
 pub mod Specifiers
 pub mod LineCopies
 pub mod Among
-pub mod WithinBound

@@ -7,4 +7,3 @@ pub mod LineSpecifiers
 pub mod ReadLines
 pub mod Errors
 pub mod Copies
-pub mod Within
