@@ -44,8 +44,8 @@ AnswersText IsOne format (Err fault) texts = Refuses IsOne fault texts
 -- what is answered to the candidates of a text that is read; or the text is refused for this fault
 abbrev pub AnswersRead : {X : Type 0} → (List Candidate → X → Type 0) → Result X RunFault
     → Result (List Candidate) Cause → Type 0
-AnswersRead Answered (Ok x) reading = (read : List Candidate) × (reading ≡ Ok read) × Answered read x
-AnswersRead Answered (Err fault) reading = Refuses IsPlain fault reading
+AnswersRead Answers (Ok x) reading = (read : List Candidate) × (reading ≡ Ok read) × Answers read x
+AnswersRead Answers (Err fault) reading = Refuses IsPlain fault reading
 
 abbrev pub check_texts : Variables → List (List ℕ) → List (List ℕ) → CheckTexts
 check_texts vars extras inputs =
