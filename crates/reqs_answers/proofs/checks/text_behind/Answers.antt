@@ -1,7 +1,8 @@
-use Rattle.std.proofs.Common.{◌∙◌, map, refl}
+use Rattle.std.proofs.Common.{◌∙◌, map, refl, ap}
 use Rattle.std.proofs.lemmas.Result.{err_from_is_err_and}
 use Rattle.reqtable_answer.specs.Rows.{row_seen}
 use Rattle.reqs_io_faults.specs.Faults.{IsPlain}
+use Rattle.reqs_json.specs.Rows.{rows_text}
 use Rattle.reqs_answers.specs.Texts.{behind_lines}
 use Rattle.reqs_io_faults.proofs.Steps.{refuses_rest}
 use Rattle.reqs_answers.proofs.Selected.{rows_as}
@@ -31,6 +32,7 @@ returns-in-Ok c = λ vars said stands.
       is_text = (
         is.answer,
         is.is_answer,
-        c.in-Ok.ensures ∙ rows_as selection.candidates.items read.0 c.args.format (map row_seen selection.answer.rows.items) is.answer is.are_its_rows,
+        c.in-Ok.ensures ∙ ap (λ those. rows_text c.args.format those (map row_seen selection.answer.rows.items)) c.deref.ensures.value
+        ∙ rows_as selection.candidates.items read.0 c.args.format (map row_seen selection.answer.rows.items) is.answer is.are_its_rows,
       );
     }
