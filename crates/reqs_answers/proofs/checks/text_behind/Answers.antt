@@ -33,6 +33,6 @@ returns-in-Ok c = λ vars said stands.
         is.answer,
         is.is_answer,
         c.in-Ok.ensures ∙ ap (λ those. rows_text c.args.format those (map row_seen selection.answer.rows.items)) c.deref.ensures.value
-        ∙ rows_as selection.candidates.items read.0 c.args.format (map row_seen selection.answer.rows.items) is.answer is.are_its_rows,
+            ∙ rows_as selection.candidates.items read.0 c.args.format (map row_seen selection.answer.rows.items) is.answer is.are_its_rows,
       );
     }
