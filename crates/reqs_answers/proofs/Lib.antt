@@ -1,4 +1,4 @@
-pub mod Selected
+pub mod Answered
 pub mod Whole
 pub mod Numbered
 pub mod Formats

@@ -1,2 +1,0 @@
-pub mod Packages
-pub mod Selection
