@@ -136,12 +136,7 @@ fn cases_stand_by_their_lines(rt: HostRuntime) -> Result<(), Fail> {
 }
 
 /// The number of packages of a table with no more than `in_all` cases together, or why there is none.
-fn built_within(
-    alloc: Global,
-    lines: &str,
-    limit: u64,
-    in_all: u64,
-) -> Result<String, AllocError> {
+fn built_within(alloc: Global, lines: &str, limit: u64, in_all: u64) -> Result<String, AllocError> {
     let vars = Vars::new(alloc, &[], "/w")?;
     let mut interner = Interner::new(alloc);
     let Ok(read) = Requirements::parse(alloc, lines.as_bytes(), &mut interner, &vars) else {
@@ -173,7 +168,10 @@ fn cases_are_bounded_together(rt: HostRuntime) -> Result<(), Fail> {
         (1, 0, "too many in all"),
         (0, 0, "too many: bar"),
     ] {
-        assert_eq!(rt; built_within(rt.alloc(), lines, limit, in_all)?.as_str(), want);
+        assert_eq!(rt;
+            built_within(rt.alloc(), lines, limit, in_all)?.as_str(),
+            want
+        );
     }
     assert_eq!(rt; built_within(rt.alloc(), "", 0, 0)?.as_str(), "0 packages");
     Ok(())

@@ -209,9 +209,14 @@ module _ (vars : Variables) (old new : List NodeRecord) (keeps : Extends old new
         let names = ap group_names split ∙ names_split front group back in
         let inside = stands_before q (group_names front) group.name (group_names back) less (rises front group back split)
         (subst (λ l. list_any (bytes_eq q) l ≡ true) names there) in
-        let at = found q front inside in
-        (at.0, at.1, at.2, at.3, at.4,
-            split ∙ ap (λ l. l ++ group ∷ back) at.3 ∙ append_assoc at.0 (at.1 ∷ at.2) (group ∷ back))
+        let at = found q front inside in (
+          at.0,
+          at.1,
+          at.2,
+          at.3,
+          at.4,
+          split ∙ ap (λ l. l ++ group ∷ back) at.3 ∙ append_assoc at.0 (at.1 ∷ at.2) (group ∷ back),
+        )
 
     few_before : (other : List ℕ) → name_cmp other group.name ≡ Less → HasTooMany limit said other → ⊥
     few_before other less many =
@@ -334,9 +339,9 @@ module _ (vars : Variables) (old new : List NodeRecord) (keeps : Extends old new
   refused_at (Some in_all) (TooManyCases name) at = (
     first_too_many (Some in_all) name at,
     λ more.
-    limit_within at.front at.group at.back at.split at.table at.made in_all
-    (limit_left in_all limit (table_cases at.table) at.left at.is_left at.refused.1)
-    (subst (HasMoreInAll limit in_all said) at.refused.0 more),
+        limit_within at.front at.group at.back at.split at.table at.made in_all
+        (limit_left in_all limit (table_cases at.table) at.left at.is_left at.refused.1)
+        (subst (HasMoreInAll limit in_all said) at.refused.0 more),
   )
   refused_at (Some in_all) TooManyCasesInAll at =
       too_many_in_all at.front at.group at.back at.split at.table at.made in_all (most_cases limit at.left)
