@@ -25,13 +25,13 @@ use Rattle.reqtable_table.specs.declared.table.TableError.{TableError}
 use Rattle.reqtable_table.specs.declared.table.TableError.TheVariants.{TooManyCases, TooManyCasesInAll, Memory}
 use Rattle.reqtable_table.specs.Kept.{KeptLine, KeptPackage}
 use Rattle.reqtable_table.specs.Cases.{IsCaseOf, table_cases}
-use Rattle.reqtable_table.specs.Building.{most_cases, group_marks, IsPackageOf, ArePackagesOf, IsRefusedAt}
+use Rattle.reqtable_table.specs.Building.{most_cases, group_marks, IsPackageOf, IsWithin, IsRefusedAt}
 use Rattle.reqtable_table.specs.Building.{IsFirstRefusal, BuildsBy}
 use Rattle.reqtable_table.proofs.Built.{found, made_of, names_split, is_in, is_there, group_is_said, all_built}
 use Rattle.reqtable_table.proofs.Firsts.{longer, no_more}
 use Rattle.reqtable_table.proofs.Packages.{as_long, kept_markers, zip_pushed}
 use Rattle.reqtable_table.proofs.Rising.{name_cmp, around, stands_before, before_other, not_behind, front_rises}
-use Rattle.reqtable_table.proofs.Rooms.{left_within, limit_left, some_left, none_left}
+use Rattle.reqtable_table.proofs.Rooms.{limit_left, some_left, none_left}
 use Rattle.reqtable_table.proofs.Said.{named_alike}
 use Rattle.reqtable_table.proofs.Sums.{Counted, names_counted, total, IsAmong, AllAmong, within_all, among_front}
 use Rattle.reqtable_table.proofs.Sums.{among_last, sum_pushed}
@@ -186,12 +186,11 @@ module _ (vars : Variables) (old new : List NodeRecord) (keeps : Extends old new
       let more = h.more in
       omega (arith, within, sum, few, more)
 
-  pub built_by : (in_all : Option ℕ) (table : List KeptPackage) → ArePackagesOf limit in_all new groups table →
+  pub built_by : (in_all : Option ℕ) (table : List KeptPackage) → Made groups table → IsWithin in_all (table_cases table) →
       BuildsBy limit in_all new said (Ok table)
-  built_by None table h = all_built vars old new keeps lines groups are said stand limit table h.made
-  built_by (Some in_all) table h =
-      let few = left_within in_all (table_cases table) h.left h.is_left in
-      (all_built vars old new keeps lines groups are said stand limit table h.made, few, none_in_all in_all table h.made few)
+  built_by None table made few = all_built vars old new keeps lines groups are said stand limit table made
+  built_by (Some in_all) table made few =
+      (all_built vars old new keeps lines groups are said stand limit table made, few, none_in_all in_all table made few)
 
   -- ---- a group that is refused
 

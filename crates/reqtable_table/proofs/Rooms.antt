@@ -5,7 +5,7 @@ use Rattle.std.proofs.Math.Nat.{min-le_left, mul-le-mul_left}
 use Rattle.std.specs.Prelude.{min, option_map, unwrap_or}
 use Rattle.reqtable_table.specs.Kept.{KeptPackage}
 use Rattle.reqtable_table.specs.Cases.{table_cases}
-use Rattle.reqtable_table.specs.Building.{most_cases, IsLeft}
+use Rattle.reqtable_table.specs.Building.{most_cases, IsLeft, IsWithin}
 
 pub most_at_most : (limit : ℕ) (left : Option ℕ) → most_cases limit left ≤ limit
 most_at_most limit None = omega arith
@@ -27,6 +27,10 @@ pub left_within : (in_all made : ℕ) (left : Option ℕ) → IsLeft (Some in_al
 left_within in_all made None is = absurd (cc)
 left_within in_all made (Some left) is =
     let same : in_all ≡ made + left = ap (λ o. unwrap_or o 0) is in omega (arith, same)
+
+pub is_within : (in_all : Option ℕ) (made : ℕ) (left : Option ℕ) → IsLeft in_all made left → IsWithin in_all made
+is_within None made left is = tt
+is_within (Some in_all) made left is = left_within in_all made left is
 
 -- as many as the limit are left
 pub limit_left : (in_all limit made : ℕ) (left : Option ℕ) → IsLeft (Some in_all) made left →

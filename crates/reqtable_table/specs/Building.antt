@@ -70,12 +70,10 @@ abbrev pub IsFirstRefusal : ℕ → Option ℕ → List NodeRecord → List Grou
 IsFirstRefusal limit in_all nodes groups error =
     (error ≡ Memory) ⊎ IsRefusedAt limit in_all nodes groups error
 
--- the packages of all groups, with no more cases together than there may be
-pub record ArePackagesOf (limit : ℕ) (in_all : Option ℕ) (nodes : List NodeRecord) (groups : List Group)
-    (table : List KeptPackage) : Type 0 where
-  pub made : AllZip (IsPackageOf limit nodes) groups table
-  pub left : Option ℕ
-  pub is_left : IsLeft in_all (table_cases table) left
+-- so many cases are no more than there may be, if that is bounded
+abbrev pub IsWithin : Option ℕ → ℕ → Type 0
+IsWithin None made = Unit {0}
+IsWithin (Some in_all) made = made ≤ in_all
 
 -- the result of building a table, with or without a bound on the cases of all packages
 abbrev pub BuildsBy : ℕ → Option ℕ → List NodeRecord → List LineRecord → Result (List KeptPackage) TableError

@@ -1,9 +1,9 @@
 //! How many cases a table may have.
 
-ghost use Rattle.std.specs.Prelude.{◌≡◌, ◌-◌, option_map};
+ghost use Rattle.std.specs.Prelude.{◌≡◌, ◌-◌, length, option_map};
 ghost use Rattle.reqtable_table.specs.Building.{most_cases, IsRefusalOf};
 
-use crate::table::TableError;
+use crate::table::{Case, TableError};
 use pep508_name::PackageName;
 
 /// How many cases there may be of each package that is still to come, and, if that is bounded, of all of them
@@ -25,14 +25,14 @@ impl Room {
         }
     }
 
-    /// The room that a package with so many cases leaves.
-    pub(crate) fn after(self, count: usize) -> Room
+    /// The room that a package with these cases leaves.
+    pub(crate) fn after(self, cases: &[Case]) -> Room
         ensures limit { result.limit ≡ self.limit }
-        ensures left { result.left ≡ option_map (λ left. left - count) self.left }
+        ensures left { result.left ≡ option_map (λ left. left - length cases.now) self.left }
     {
         let left = match self.left {
             None => None,
-            Some(left) => Some(left.saturating_sub(count as u64)),
+            Some(left) => Some(left.saturating_sub(cases.len() as u64)),
         };
         Room {
             limit: self.limit,

@@ -16,9 +16,9 @@ ghost use Rattle.pep508_cases.specs.Last.{IsLast};
 ghost use Rattle.reqtable_requirements.specs.Asks.{AreOfNodes};
 ghost use Rattle.reqtable_requirements.specs.LineReading.{LineRecord};
 ghost use Rattle.reqtable_requirements.specs.Requirements.{StandsFor};
-ghost use Rattle.reqtable_table.specs.Building.{most_cases, AreOfTrees, IsPackageOf, ArePackagesOf, IsRefusal};
+ghost use Rattle.reqtable_table.specs.Building.{most_cases, AreOfTrees, IsPackageOf, IsWithin, IsRefusal};
 ghost use Rattle.reqtable_table.specs.Building.{IsFirstRefusal, BuildsBy};
-ghost use Rattle.reqtable_table.specs.Cases.{Builds, BuildsWithin, HasItsCases, cases_under};
+ghost use Rattle.reqtable_table.specs.Cases.{Builds, BuildsWithin, HasItsCases, cases_under, table_cases};
 ghost use Rattle.reqtable_table.specs.Casing.{case_record};
 ghost use Rattle.reqtable_table.specs.Counts.{up_to_64_bits, tests_of, all_tests, table_tests};
 ghost use Rattle.reqtable_groups.specs.Given.{lines_in};
@@ -289,8 +289,9 @@ fn packages_of(
     slots: &mut Slots,
 ) -> Result<Vec<Package>, TableError>
     requires { AllByRecursion (AreOfTrees interner.old.nodes) groups.items }
-    ensures made { IfOk result (λ made. ArePackagesOf room.limit room.left interner.new.nodes groups.items
+    ensures made { IfOk result (λ made. AllZip (IsPackageOf room.limit interner.new.nodes) groups.items
         (map package_record made.items)) }
+    ensures within { IfOk result (λ made. IsWithin room.left (table_cases (map package_record made.items))) }
     ensures refused { IfErr result (IsFirstRefusal room.limit room.left interner.new.nodes groups.items) }
     ensures keeps { Extends interner.old.nodes interner.new.nodes }
     ensures counts { interner.new.conjunctions
@@ -302,7 +303,7 @@ fn packages_of(
     for group in groups {
         match package_of(alloc, interner, group, left, slots, &mut last) {
             Ok(package) => {
-                left = left.after(package.cases.len());
+                left = left.after(&package.cases);
                 packages.push(package)?
             }
             Err(error) => return Err(error),

@@ -20,14 +20,14 @@ invariant_of-result c =
     let are : AreGrouped lines groups = subst (λ l. AreGrouped l groups) c.into_lines.ensures.lines c.in_ok-groups.ensures in
     is_table c.a_read_specifier_is_built.ensures.built c.a_read_specifier_is_built.ensures.ends c.args.room.limit
     c.packages_of.new.interner.nodes lines (subst AreRead c.into_lines.ensures.lines c.into_lines.ensures.read) groups are
-    (map package_record c.in-Ok.packages.items) c.in-Ok.ensures.made.made
+    (map package_record c.in-Ok.packages.items) c.in-Ok.ensures.made
 
 pub returns-in-Ok-clause-built : goal.returns-in-Ok-clause-built
 returns-in-Ok-clause-built c = λ vars said stand.
     let groups = c.in_ok-groups.groups.items in
     let are : AreGrouped c.args.requirements groups = subst (λ lines. AreGrouped lines groups) c.into_lines.ensures.lines c.in_ok-groups.ensures in
     built_by vars c.args.interner.now.nodes c.packages_of.new.interner.nodes c.in-Ok.ensures.keeps c.args.requirements groups are said stand
-    c.args.room.limit c.args.room.left (map package_record c.in-Ok.packages.items) c.in-Ok.ensures.made
+    c.args.room.limit c.args.room.left (map package_record c.in-Ok.packages.items) c.in-Ok.ensures.made c.in-Ok.ensures.within
 
 pub returns-clause-built : goal.returns-clause-built
 returns-clause-built c = λ vars said stand.
@@ -39,9 +39,9 @@ returns-clause-built c = λ vars said stand.
 pub returns-in-Ok-clause-cases : goal.returns-in-Ok-clause-cases
 returns-in-Ok-clause-cases c =
     all_cases c.args.room.limit c.packages_of.new.interner.nodes c.in_ok-groups.groups.items
-    (map package_record c.in-Ok.packages.items) c.in-Ok.ensures.made.made
+    (map package_record c.in-Ok.packages.items) c.in-Ok.ensures.made
 
 pub returns-in-Ok-clause-unasked : goal.returns-in-Ok-clause-unasked
 returns-in-Ok-clause-unasked c =
     none_asked c.args.room.limit c.packages_of.new.interner.nodes c.in_ok-groups.groups.items
-    (map package_record c.in-Ok.packages.items) c.in-Ok.ensures.made.made
+    (map package_record c.in-Ok.packages.items) c.in-Ok.ensures.made

@@ -1,4 +1,4 @@
-use Rattle.std.proofs.Common.{◌≡◌, ◌∙◌, ◌≤◌, ◌+◌, ◌*◌, ◌++◌, ◌∷◌, [], map, length, refl, sym, ap, subst, append_assoc, append-nil, rules}
+use Rattle.std.proofs.Common.{◌≡◌, ◌∙◌, ◌≤◌, ◌+◌, ◌*◌, ◌++◌, ◌∷◌, [], map, length, refl, sym, ap, subst, append_assoc, rules}
 use Rattle.std.proofs.lemmas.List.{map-append, length-map}
 use Rattle.std.specs.List.{AllZip, AllByRecursion}
 use Rattle.std.specs.Vec.Iter.{into_iter_items}
@@ -11,7 +11,7 @@ use Rattle.reqtable_table.specs.Cases.{table_cases}
 use Rattle.reqtable_table.proofs.Packages.{zip_pushed}
 use Rattle.reqtable_table.proofs.Firsts.{of_trees_on, packages_on, pushed_all, more_lines, at_most, so_far}
 use Rattle.reqtable_table.proofs.Firsts.{first_refused, of_fewer}
-use Rattle.reqtable_table.proofs.Rooms.{nothing_made, most_at_most, left_after, table_pushed}
+use Rattle.reqtable_table.proofs.Rooms.{nothing_made, most_at_most, left_after, is_within, table_pushed}
 use Rattle.reqtable_table.proofs.table.packages_of.Goals as goal
 
 pub loop-group-init : goal.loop-group-init
@@ -55,7 +55,8 @@ loop-group-preserved c =
     let kept = package_record c.in-Ok.package in
     let made : IsPackageOf (most_cases limit own) new group kept =
     subst (λ n. IsPackageOf (most_cases n own) new group kept) before.limit c.in-Ok.ensures.made in
-    let count : length kept.cases ≡ c.len.result = length-map c.in-Ok.package.cases.items case_record ∙ sym c.len.ensures in
+    let count : length kept.cases ≡ length c.deref.result.now =
+    length-map c.in-Ok.package.cases.items case_record ∙ ap length (sym c.deref.ensures.value) in
     let pushed = ap (map package_record) c.in_ok-push-in-Ok.ensures.items ∙ map-append package_record c.loop-group.packages.items _ in
     let old_table = map package_record c.loop-group.packages.items in
     let taken : into_iter_items c.loop-group.group-iterator ≡ group ∷ rest = search rules in
@@ -82,7 +83,7 @@ loop-group-preserved c =
           subst (λ l. IsLeft c.args.room.left (table_cases (map package_record c.push.new.self.items)) l)
           (sym c.after.ensures.left)
           (left_after limit c.args.room.left (table_cases old_table)
-          (table_cases (map package_record c.push.new.self.items)) c.len.result own
+          (table_cases (map package_record c.push.new.self.items)) (length c.deref.result.now) own
           (ap table_cases pushed ∙ table_pushed old_table kept ∙ ap (λ n. table_cases old_table + n) count)
           (subst (λ n. n ≤ most_cases limit own) count made.few) before.is_left);
     }
@@ -129,16 +130,7 @@ returns-in-Err-clause-counts c =
     (subst (λ n. c.package_of.new.interner.conjunctions ≤ c.loop-group.interner.conjunctions + 2 * (length group.lines.items * n))
     c.loop-group.invariant.limit c.in-Err.ensures.counts) whole
 
-pub returns-clause-made : goal.returns-clause-made
-returns-clause-made c =
-    let done = c.loop-group.yielded in
-    let is = c.loop-group.invariant in
-    let end : into_iter_items c.loop-group.group-iterator ≡ [] = search rules in
-    let whole : done ≡ c.args.groups.items = sym (append-nil done) ∙ ap (λ l. done ++ l) (sym end) ∙ is.split in
-    record {
-      made =
-          subst (λ gs. AllZip (IsPackageOf c.args.room.limit c.loop-group.interner.nodes) gs
-          (map package_record c.loop-group.packages.items)) whole is.made;
-      left = c.loop-group.left.left;
-      is_left = is.is_left;
-    }
+pub returns-clause-within : goal.returns-clause-within
+returns-clause-within c =
+    is_within c.args.room.left (table_cases (map package_record c.loop-group.packages.items)) c.loop-group.left.left
+    c.loop-group.invariant.is_left
