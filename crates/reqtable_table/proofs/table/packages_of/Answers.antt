@@ -78,10 +78,10 @@ loop-group-preserved c =
           kept refl pushed (packages_on limit now new done old_table c.in-Ok.ensures.keeps before.made)
           (of_fewer (most_cases limit own) limit new group kept (most_at_most limit own) made);
       last = c.in-Ok.ensures.last;
-      limit = c.after.ensures.limit ∙ before.limit;
+      limit = c.after-left.ensures.limit ∙ before.limit;
       is_left =
           subst (λ l. IsLeft c.args.room.left (table_cases (map package_record c.push.new.self.items)) l)
-          (sym c.after.ensures.left)
+          (sym c.after-left.ensures.left)
           (left_after limit c.args.room.left (table_cases old_table)
           (table_cases (map package_record c.push.new.self.items)) (length c.deref.result.now) own
           (ap table_cases pushed ∙ table_pushed old_table kept ∙ ap (λ n. table_cases old_table + n) count)
