@@ -167,8 +167,8 @@ impl Table {
     /// The table of a text's requirements, as `build` makes it, with no more than `in_all` cases of all packages
     /// together.
     ///
-    /// Packages are taken by name, and of each no more cases are made than both bounds leave: so at most
-    /// `in_all` cases are kept at any time, whatever `limit` is. The cost is that of `build`.
+    /// Packages are taken by name, and one is refused once it has more cases than both bounds leave, so that no
+    /// more than `in_all` are ever kept, whatever `limit` is. The cost is that of `build`.
     ///
     /// # Errors
     ///
