@@ -1,5 +1,5 @@
 -- How many cases are left.
-use Rattle.std.proofs.Common.{◌≡◌, ◌∙◌, ◌≤◌, ◌+◌, ◌-◌, ◌*◌, ℕ, List, [], ◌∷◌, ◌++◌, length, refl, ap, subst, arith, Option}
+use Rattle.std.proofs.Common.{◌≡◌, ◌∙◌, ◌≤◌, ◌+◌, ◌-◌, ◌*◌, ℕ, List, [], ◌∷◌, ◌++◌, length, refl, ap, arith, Option}
 use Rattle.std.proofs.Common.{Some, None}
 use Rattle.std.proofs.Math.Nat.{min-le_left, mul-le-mul_left}
 use Rattle.std.specs.Prelude.{min, option_map, unwrap_or}

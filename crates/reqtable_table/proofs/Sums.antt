@@ -1,6 +1,6 @@
 -- The cases of some packages are no more than those of all.
 use Rattle.std.proofs.Common.{◌≡◌, ℕ, ◌≤◌, ◌+◌, ◌⊎◌, List, [], ◌∷◌, ◌++◌, map, length, sym, subst, inl, inr, arith, Less}
-use Rattle.std.specs.List.{AllZip, AllByRecursion}
+use Rattle.std.specs.List.{AllZip}
 use Rattle.std.specs.List.Sorted.{IsStrictlySortedBy}
 use Rattle.reqtable_table.specs.InAll.{cases_in_all}
 use Rattle.reqtable_table.proofs.Rising.{name_cmp, AllBehind, behind_on, not_below_itself}
