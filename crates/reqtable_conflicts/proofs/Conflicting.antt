@@ -32,16 +32,16 @@ use Rattle.reqtable_cases.specs.Usable.{IsRangeOf}
 use Rattle.reqtable_cases.specs.Conflicts.{IsConflict, told_of, AreConflicts}
 use Rattle.reqtable_table.specs.declared.table.TableError.{TableError}
 use Rattle.reqtable_table.specs.declared.table.TableError.TheVariants.{TooManyCases, TooManyCasesInAll, Memory}
-use Rattle.reqtable_table.specs.Cases.{Builds, HasItsCases, IsCaseOfLines, AreCasesOf, cases_under}
+use Rattle.reqtable_table.specs.Cases.{Builds, HasItsCases, IsCaseOfLines, AreCasesOf, cases_under, BuildsWithin}
 use Rattle.reqtable_table.specs.Kept.{KeptCase, KeptPackage, KeepsAll}
 use Rattle.reqtable_table_laws.proofs.CasesOfLines.{cases_of_lines, none_of_lines}
-use Rattle.reqtable_conflicts.specs.Contradictions.{ConflictRecord, FindsConflicts, HasNoPoint, StandByName}
+use Rattle.reqtable_conflicts.specs.Contradictions.{ConflictRecord, FindsConflicts, HasNoPoint, StandByName, FindsWithin}
 use Rattle.reqtable_conflicts.specs.Contradictions.{told_under}
 use Rattle.reqtable_conflicts.specs.Picking.{Picks, PicksOf, FoundFor, named}
 use Rattle.reqtable_conflicts.specs.Agreeing.{AreDoubtful}
 use Rattle.reqtable_packages.specs.Packages.{said_among}
 use Rattle.reqtable_conflicts.proofs.Agreed.{empty_has_none, no_conflict, few_others}
-use Rattle.reqtable_packages.proofs.Among.{among_lines, none_too_many, first_too_many}
+use Rattle.reqtable_packages.proofs.Among.{among_lines, none_too_many, first_too_many, too_many_in_all}
 use Rattle.reqtable_conflicts.proofs.Picked.{in_or}
 use Rattle.reqtable_packages.proofs.Standing.{unnamed}
 
@@ -353,3 +353,13 @@ refused_too view vars old nodes limit lines said names (TooManyCases name) stand
     first_too_many limit names said (few_others vars old limit lines said names stand are) name first
 refused_too view vars old nodes limit lines said names TooManyCasesInAll stand are h = absurd h
 refused_too view vars old nodes limit lines said names Memory stand are first = tt
+
+pub refused_within : {X : Type 0} (view : X → List ConflictRecord) (vars : Variables) (old nodes : List NodeRecord)
+    (limit in_all : ℕ) (lines : List Line) (said : List LineRecord) (names : List (List ℕ)) (error : TableError) →
+    AllZip (StandsFor vars old) lines said → AreDoubtful limit lines names →
+    BuildsWithin limit in_all nodes (said_among names said) (Err error) → FindsWithin view limit in_all said (Err error)
+refused_within view vars old nodes limit in_all lines said names (TooManyCases name) stand are first =
+    first_too_many limit names said (few_others vars old limit lines said names stand are) name first.0
+refused_within view vars old nodes limit in_all lines said names TooManyCasesInAll stand are h =
+    too_many_in_all limit names said (few_others vars old limit lines said names stand are) in_all h
+refused_within view vars old nodes limit in_all lines said names Memory stand are h = tt

@@ -16,6 +16,7 @@ use Rattle.reqtable_cases.specs.Lines.{HasTooMany, IsFirstTooMany}
 use Rattle.reqtable_cases.specs.Conflicts.{AreConflicts}
 use Rattle.reqtable_table.specs.declared.table.TableError.{TableError}
 use Rattle.reqtable_table.specs.declared.table.TableError.TheVariants.{TooManyCases, TooManyCasesInAll, Memory}
+use Rattle.reqtable_table.specs.InAll.{HasTooManyInAll}
 use Rattle.reqtable_table.specs.Kept.{KeptCase}
 use Rattle.reqtable_conflicts.specs.declared.contradicting.Conflict.{Conflict}
 
@@ -49,6 +50,15 @@ FindsConflicts view limit said (Ok found) =
 FindsConflicts view limit said (Err (TooManyCases name)) = IsFirstTooMany limit said name
 FindsConflicts view limit said (Err TooManyCasesInAll) = ⊥
 FindsConflicts view limit said (Err Memory) = Unit {0}
+
+-- the conflicts that are found with a bound on the cases of all packages together: it is passed only where the
+-- lines have more cases in all
+abbrev pub FindsWithin : {X : Type 0} → (X → List ConflictRecord) → ℕ → ℕ → List LineRecord
+    → Result X TableError → Type 0
+FindsWithin view limit in_all said (Ok found) = FindsConflicts view limit said (Ok found)
+FindsWithin view limit in_all said (Err (TooManyCases name)) = IsFirstTooMany limit said name
+FindsWithin view limit in_all said (Err TooManyCasesInAll) = HasTooManyInAll limit in_all said
+FindsWithin view limit in_all said (Err Memory) = Unit {0}
 
 -- a case has lines and a range without any point
 pub record HasNoPoint (case : KeptCase) : Type 0 where

@@ -13,14 +13,14 @@ ghost use Rattle.reqtable_requirements.specs.Asks.{AreOfNodes};
 ghost use Rattle.reqtable_requirements.specs.LineReading.{LineRecord};
 ghost use Rattle.reqtable_requirements.specs.Requirements.{StandsFor};
 ghost use Rattle.reqtable_table.specs.Casing.{case_record};
-ghost use Rattle.reqtable_conflicts.specs.Contradictions.{conflict_record, FindsConflicts, HasNoPoint};
+ghost use Rattle.reqtable_conflicts.specs.Contradictions.{conflict_record, FindsConflicts, FindsWithin, HasNoPoint};
 ghost use Rattle.reqtable_conflicts.specs.Picking.{AddsPicked, FoundFor, told, named};
 
 use crate::doubtful::doubtful_packages;
 use pep440_version::Version;
 use pep508_name::PackageName;
 use pep508_tree::Interner;
-use reqtable_packages::packages_table;
+use reqtable_packages::{packages_table, packages_table_within};
 use reqtable_requirements::Requirements;
 use reqtable_table::{Case, Table, TableError};
 use std::alloc::{AllocError, Global};
@@ -75,6 +75,36 @@ pub fn conflicts(
 {
     let names = doubtful_packages(alloc, requirements.lines(), limit)?;
     let table = packages_table(alloc, requirements, &names, interner, limit)?;
+    let found = conflicts_in(alloc, &table, &names)?;
+    Ok(found)
+}
+
+/// The lines of each package that contradict each other, as `conflicts` finds them, with no more than `in_all`
+/// cases built. Only the packages whose cases `conflicts` builds are counted, and their tables are those of
+/// `Table::build_within`.
+///
+/// # Errors
+///
+/// `TableError::TooManyCases` for the first package by name that has more cases than `limit`.
+/// `TableError::TooManyCasesInAll` only where the packages up to some package have more than `in_all` cases
+/// together, and none before it has more than `limit`. `TableError::Memory` when memory runs out.
+pub fn conflicts_within(
+    alloc: Global,
+    requirements: &Requirements,
+    interner: &mut Interner,
+    limit: u64,
+    in_all: u64,
+) -> Result<Vec<Conflict>, TableError>
+    requires trees { AreOfNodes interner.old.nodes requirements.now }
+    ensures found { (vars : Variables) (said : List LineRecord) →
+        AllZip (StandsFor vars interner.old.nodes) requirements.now said →
+        FindsWithin (λ found. map conflict_record found.items) limit in_all said result }
+    ensures keeps { Extends interner.old.nodes interner.new.nodes }
+    ensures counts { interner.new.conjunctions
+        ≤ interner.old.conjunctions + 2 * (limit * length requirements.now) }
+{
+    let names = doubtful_packages(alloc, requirements.lines(), limit)?;
+    let table = packages_table_within(alloc, requirements, &names, interner, limit, in_all)?;
     let found = conflicts_in(alloc, &table, &names)?;
     Ok(found)
 }
