@@ -22,8 +22,9 @@ use Rattle.reqtable_requirements.specs.declared.requirements.Line.{Line}
 use Rattle.reqtable_cases.specs.Lines.{line_marks}
 use Rattle.reqtable_cases.specs.Requires.{RequireAlike, RequireTheSame, IsFirstDifference, asked_of}
 use Rattle.reqtable_table.specs.Cases.{AreCasesOf, cases_under, Builds}
-use Rattle.reqtable_table.specs.Kept.{KeptCase, KeptPackage}
-use Rattle.reqtable_table_laws.proofs.CasesOfLines.{cases_of_lines, none_of_lines}
+use Rattle.reqtable_table.specs.Kept.{KeptCase, KeptPackage, kept_under}
+use Rattle.reqtable_table_laws.proofs.CasesOfLines.{cases_of_lines, none_of_lines, range_of_case}
+use Rattle.reqtable_table_laws.proofs.CasesOfLines.{filter_rises}
 use Rattle.reqtable_compare.specs.declared.sides.Same.{Same}
 use Rattle.reqtable_compare.specs.declared.sides.Same.TheVariants.{Yes, No}
 use Rattle.reqtable_compare.specs.declared.sides.SameError.{SameError}
@@ -36,9 +37,9 @@ use Rattle.reqtable_compare.specs.Refusals.{line_refusal}
 use Rattle.reqtable_packages.specs.Packages.{said_among}
 use Rattle.reqtable_compare.specs.Summed.{SummaryRecord, AreSummaries}
 use Rattle.reqtable_compare.specs.Totals.{AreSummed}
-use Rattle.reqtable_compare.proofs.ByNumber.{Rise, HasExtras, extras_said}
+use Rattle.reqtable_compare.proofs.ByNumber.{Rise, HasExtras, extras_said, numbers_alike}
 use Rattle.reqtable_compare.proofs.Comparable.{AreComparable}
-use Rattle.reqtable_compare.proofs.Summaries.{no_summaries, some_summaries}
+use Rattle.reqtable_compare.proofs.Summaries.{AreRanged, no_summaries, some_summaries}
 use Rattle.reqtable_compare.proofs.Paired.{all_pass, differs}
 use Rattle.reqtable_packages.proofs.Among.{among_lines, none_too_many, first_too_many}
 use Rattle.reqtable_packages.proofs.Standing.{unnamed}
@@ -52,6 +53,8 @@ pub record SideOf (nodes : List NodeRecord) (names : List (List ℕ)) (side : Li
   pub comparable : AreComparable said
   pub some : (q : List ℕ) (cases : List KeptCase) → list_any (bytes_eq q) names ≡ true →
       cases_under q side.table ≡ Some cases → AreCasesOf nodes (lines_of q said) cases
+  pub ranged : (q : List ℕ) → list_any (bytes_eq q) names ≡ true →
+      AreRanged (kept_under q side.table) (lines_of q said)
   pub none : (q : List ℕ) → list_any (bytes_eq q) names ≡ true → cases_under q side.table ≡ None →
       lines_of q said ≡ []
 
@@ -73,6 +76,10 @@ side_of vars old made new limit names lines table said stand rise comparable bui
   some = λ q cases there is. kept_cases made new (lines_of q said) cases keeps
       (subst (λ l. AreCasesOf made l cases) (among_lines names q said there)
       (cases_of_lines made table (said_among names said) q cases built.0 built.1 is));
+  ranged = λ q there. subst (AreRanged (kept_under q table)) (among_lines names q said there)
+      (λ case set range. range_of_case made table (said_among names said) q case set range built.0
+      (filter_rises (λ line. list_any (bytes_eq line.front.name) names) said
+      (subst (IsStrictlySortedBy nat_cmp) (numbers_alike vars old lines said stand) rise)));
   none = λ q there is. sym (among_lines names q said there)
       ∙ unnamed (λ line. is_of q line.front) (said_among names said)
       (none_of_lines made table (said_among names said) q built.0 is);
@@ -80,12 +87,14 @@ side_of vars old made new limit names lines table said stand rise comparable bui
 
 sums_by : (nodes : List NodeRecord) (names : List (List ℕ)) (side : Listed) (said : List LineRecord) (q : List ℕ)
     (summaries : List SummaryRecord) (cases : Option (List KeptCase)) → SideOf nodes names side said →
-    list_any (bytes_eq q) names ≡ true → cases_under q side.table ≡ cases → AreSummed side.lines cases summaries →
+    list_any (bytes_eq q) names ≡ true → cases_under q side.table ≡ cases →
+    AreSummed side.lines (kept_under q side.table) cases summaries →
     AreSummaries nodes (lines_of q said) summaries
 sums_by nodes names side said q summaries None of there is sums =
     no_summaries nodes (lines_of q said) summaries (of.none q there is) sums
 sums_by nodes names side said q summaries (Some cases) of there is sums =
-    some_summaries nodes side.lines q said summaries cases of.extras of.comparable sums (of.some q cases there is)
+    some_summaries nodes side.lines (kept_under q side.table) q said summaries cases of.extras of.comparable
+    (of.ranged q there) sums (of.some q cases there is)
 
 sums_of : (nodes : List NodeRecord) (names : List (List ℕ)) (side : Listed) (said : List LineRecord) (q : List ℕ)
     (summaries : List SummaryRecord) → SideOf nodes names side said → list_any (bytes_eq q) names ≡ true →

@@ -13,6 +13,7 @@ ghost use Rattle.reqtable_requirements.specs.Asks.{AreOfNodes};
 ghost use Rattle.reqtable_requirements.specs.LineReading.{LineRecord};
 ghost use Rattle.reqtable_requirements.specs.Requirements.{StandsFor};
 ghost use Rattle.reqtable_table.specs.Casing.{case_record};
+ghost use Rattle.reqtable_table.specs.Kept.{kept_under};
 ghost use Rattle.reqtable_conflicts.specs.Contradictions.{conflict_record, FindsConflicts, HasNoPoint};
 ghost use Rattle.reqtable_conflicts.specs.Picking.{AddsPicked, FoundFor, told, named};
 
@@ -53,7 +54,8 @@ pub struct Conflict {
 /// n lines need O(n log n) comparisons of names, and the intersection of the ranges of each package's lines.
 /// A package all of whose lines have some point in common has no conflict, and its cases are not built, if
 /// its n lines can't have more cases than the limit, 2^n <= limit. The lines of all other packages are
-/// copied, and cost what `Table::build` does.
+/// copied, and cost what `Table::build` does, and the intersection of the ranges of each case's lines, of which
+/// one is kept at a time.
 ///
 /// # Errors
 ///
@@ -73,6 +75,7 @@ pub fn conflicts(
     ensures counts { interner.new.conjunctions
         ≤ interner.old.conjunctions + 2 * (limit * length requirements.now) }
 {
+    requirements.are_read();
     let names = doubtful_packages(alloc, requirements.lines(), limit)?;
     let table = packages_table(alloc, requirements, &names, interner, limit)?;
     let found = conflicts_in(alloc, &table, &names)?;
@@ -91,25 +94,26 @@ fn conflicts_in(
     let mut found = Vec::new(alloc);
     for name in names {
         match table.cases(name) {
-            Some(cases) => add_conflicts(alloc, &mut found, name, cases)?,
+            Some(cases) => add_conflicts(alloc, &mut found, table, name, cases)?,
             None => (),
         }
     }
     Ok(found)
 }
 
-/// Appends those of a package's cases that are conflicts.
+/// Appends those of a package's cases in a table that are conflicts. The range of each is made in turn.
 fn add_conflicts(
     alloc: Global,
     found: &mut Vec<Conflict>,
+    table: &Table,
     name: &PackageName,
     cases: &[Case],
 ) -> Result<(), AllocError>
-    ensures { OnOk result (AddsPicked name.now (map case_record cases.now)
+    ensures { OnOk result (AddsPicked (kept_under name.now table.now) name.now (map case_record cases.now)
         (map conflict_record found.old.items) (map conflict_record found.new.items)) }
 {
     for case in cases {
-        if is_conflict(case) {
+        if is_conflict(alloc, table, name, case)? {
             push_conflict(alloc, found, name, case)?;
         }
     }
@@ -134,14 +138,22 @@ fn push_conflict(
     Ok(())
 }
 
-/// Whether the case has a line, and an empty range.
-#[tactic(auto, using(crate::proofs::Picked::has_none))]
-fn is_conflict(case: &Case) -> bool
-    ensures { IsTrue result ↔ HasNoPoint (case_record case.now) }
+/// Whether the case of a package has a line, and an empty range.
+fn is_conflict(
+    alloc: Global,
+    table: &Table,
+    name: &PackageName,
+    case: &Case,
+) -> Result<bool, AllocError>
+    ensures { IfOk result (λ conflict.
+        IsTrue conflict ↔ HasNoPoint (kept_under name.now table.now) (case_record case.now)) }
 {
-    match &case.range {
-        Some(range) => !case.lines.is_empty() && holds_nothing(range),
-        None => false,
+    if case.lines.is_empty() {
+        return Ok(false);
+    }
+    match table.range(alloc, name, case)? {
+        Some(range) => Ok(holds_nothing(&range)),
+        None => Ok(false),
     }
 }
 

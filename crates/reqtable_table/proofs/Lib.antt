@@ -3,6 +3,8 @@ pub mod Packages
 pub mod Rising
 pub mod Said
 pub mod Ranging
+pub mod Numbered
+pub mod UnderName
 pub mod Counting
 pub mod Firsts
 pub mod Built

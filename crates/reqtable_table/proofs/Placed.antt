@@ -19,7 +19,7 @@ use Rattle.reqtable_table.proofs.Same.{marks_same}
 use Rattle.reqtable_table.proofs.Told.{one_set, marked_numbers}
 
 some_case : KeptCase
-some_case = record { numbers = []; tree = always; range = None; prerelease = false }
+some_case = record { numbers = []; tree = always; prerelease = false }
 
 module _ (nodes : List NodeRecord) (v u : Valuation) (kept : KeptPackage) (stands : HasItsLines kept) (place : ℕ)
     (here : IsPlaceIn nodes v kept place) (there : IsPlaceIn nodes u kept place) where

@@ -10,7 +10,6 @@ use Rattle.pep508_cases.specs.Cases.{Marks, marks_of, AreCases}
 use Rattle.reqtable_answer.specs.Asks.{names_prerelease}
 use Rattle.reqtable_requirements.specs.LineReading.{LineRecord}
 use Rattle.reqtable_cases.specs.Lines.{marked, line_marks, numbers_of, asked_by, HasTooMany, IsFirstTooMany}
-use Rattle.reqtable_cases.specs.Usable.{IsRangeOf}
 use Rattle.reqtable_table.specs.declared.table.TableError.{TableError}
 use Rattle.reqtable_table.specs.declared.table.TableError.TheVariants.{TooManyCases, Memory}
 use Rattle.reqtable_table.specs.Kept.{KeptLine, KeptCase, KeptPackage, KeepsAll, kept_front}
@@ -19,7 +18,6 @@ use Rattle.reqtable_table.specs.Kept.{KeptLine, KeptCase, KeptPackage, KeepsAll,
 pub record IsCaseOf (lines : List KeptLine) (case : KeptCase) (set : Marks × Tree) : Type 0 where
   pub numbers : case.numbers ≡ map (λ line. line.number) (marked set.0 lines)
   pub tree : case.tree ≡ set.1
-  pub range : IsRangeOf (map kept_front (marked set.0 lines)) case.range
   pub prerelease : case.prerelease ≡ names_prerelease (map kept_front (marked set.0 lines))
 
 -- a package has the cases of its lines, whose markers are trees of these nodes
@@ -33,7 +31,6 @@ pub record HasItsCases (nodes : List NodeRecord) (kept : KeptPackage) : Type 0 w
 pub record IsCaseOfLines (lines : List LineRecord) (case : KeptCase) (set : Marks × Tree) : Type 0 where
   pub numbers : case.numbers ≡ numbers_of set.0 lines
   pub tree : case.tree ≡ set.1
-  pub range : IsRangeOf (asked_by set.0 lines) case.range
   pub prerelease : case.prerelease ≡ names_prerelease (asked_by set.0 lines)
 
 -- the cases of a text's lines
@@ -51,7 +48,6 @@ pub record IsRenumbered (line other : LineRecord) : Type 0 where
 -- a case is another one, of lines with new numbers
 pub record SameCase (case other : KeptCase) : Type 0 where
   pub tree : case.tree ≡ other.tree
-  pub range : case.range ≡ other.range
   pub prerelease : case.prerelease ≡ other.prerelease
 
 -- the cases under a name

@@ -7,6 +7,7 @@ pub mod Counts
 pub mod Errors
 pub mod Standing
 pub mod Numbers
+pub mod Numbered
 pub mod Answers
 pub mod Choosing
 pub mod Runs

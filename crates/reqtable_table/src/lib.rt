@@ -2,6 +2,7 @@
 #![tactic(auto)]
 
 mod asked;
+mod case_range;
 mod casing;
 mod choosing_by_case;
 mod kept;

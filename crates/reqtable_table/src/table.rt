@@ -2,10 +2,10 @@
 //!
 //! A table consumes the requirements and keeps no second copy: the lines are moved out, sorted by name, and
 //! cut into packages. What a package has to keep (`HasItsCases`) speaks of the interner's nodes as they
-//! are, and lasts while nodes are added. A case names its lines by their numbers; its range is made of
-//! their specifiers before these are wrapped in counting lists, and whether one of them has a pre-release
-//! is stored with the case. `gate/lent.py` holds the fields of a table, its packages, lines and cases
-//! against a list, so that one more copy is seen.
+//! are, and lasts while nodes are added. A case names its lines by their numbers, and whether one of their
+//! specifiers has a pre-release is stored with it. Its range is made when the case is asked (`range`), since
+//! most cases of many lines never are. `gate/lent.py` holds the fields of a table, its packages, lines and
+//! cases against a list, so that one more copy is seen.
 
 ghost use Rattle.std.specs.Prelude.{◌≡◌, ◌≤◌, ◌+◌, ◌*◌, List, length, map, IfOk, IfErr, OnOk};
 ghost use Rattle.std.specs.List.{AllZip, AllByRecursion};
@@ -28,7 +28,6 @@ ghost use Rattle.reqtable_table.specs.Standing.{IsTable};
 use crate::casing::{cases_of, markers};
 use crate::kept::{TableLine, kept_lines};
 use pep440_specifier::laws::a_read_specifier_is_built;
-use pep440_version::Version;
 use pep508_cases::{CasesError, LastCases};
 use pep508_name::PackageName;
 use pep508_tree::{Interner, MarkerTree};
@@ -39,7 +38,6 @@ use std::alloc::{AllocError, AllocFailed, Global};
 use std::error::Error;
 use std::fmt;
 use std::marker::Model;
-use version_ranges::Ranges;
 
 /// A set of a package's lines which all apply under some valuation of markers, while the package's other
 /// lines don't.
@@ -50,9 +48,6 @@ pub struct Case {
     /// A tree of the interner that the table was built with, which holds exactly where just these lines
     /// apply.
     pub tree: MarkerTree,
-    /// The intersection of the ranges of the lines' specifiers. `None` if a line has a URL, `===`, or `<` or
-    /// `>` with a post-release, or if a number of a range can't be raised.
-    pub range: Option<Ranges<Version>>,
     /// Whether a specifier of these lines names a pre-release or developmental release (PEP 440, "Handling of
     /// pre-releases").
     pub pre: bool,
@@ -132,9 +127,9 @@ impl Table {
     ///
     /// The cases of each package are found by one diagram of its lines' markers (`tree_cases`), or are those
     /// of the package before it by name where its lines have the same markers in the same order. n lines of a
-    /// package need at most `2 * n * limit` conjunctions. In addition the lines are sorted by name, and the
-    /// range of each case of n specifiers needs O(n log n) comparisons of versions. The table keeps what it
-    /// needs of the requirements, without a second copy.
+    /// package need at most `2 * n * limit` conjunctions. In addition the lines are sorted by name, and each case
+    /// has the numbers of its lines. No case has a range yet: that is made when the case is asked. The table
+    /// keeps what it needs of the requirements, without a second copy.
     ///
     /// # Errors
     ///

@@ -17,6 +17,9 @@ returns-then-any_marked-clause-outcome g c = λ admits by.
 pub returns-then-any_marked-clause-kept : goal.returns-then-any_marked-clause-kept
 returns-then-any_marked-clause-kept g c = same_all (records c.args.lines.now)
 
+pub returns-in_err-range-clause-kept : goal.returns-in_err-range-clause-kept
+returns-in_err-range-clause-kept g c = same_all (records c.args.lines.now)
+
 pub returns-in-Ok-Some-clause-outcome : goal.returns-in-Ok-Some-clause-outcome
 returns-in-Ok-Some-clause-outcome g c = λ admits by.
     let marks = c.args.marks.now in
