@@ -135,6 +135,54 @@ fn cases_stand_by_their_lines(rt: HostRuntime) -> Result<(), Fail> {
     Ok(())
 }
 
+/// The cases of a package by the numbers of their lines, each with whether its range has version 1.5: `+` or
+/// `-`, or `?` for a case without a range.
+fn ranges_of(alloc: Global, table: &Table, name: &str) -> Result<String, AllocError> {
+    let name = PackageName::from_str(alloc, name).or(Err(AllocError))?;
+    let version = Version::from_str(alloc, "1.5").or(Err(AllocError))?;
+    let mut text = String::new(alloc);
+    for case in table.cases(&name).unwrap_or(&[]) {
+        let sign = match table.range(alloc, &name, case)? {
+            Some(range) => sign_of(range.contains(&version)),
+            None => "?",
+        };
+        write!(text, "{:?}{sign}", case.lines)?;
+    }
+    Ok(text)
+}
+
+fn sign_of(has: bool) -> &'static str {
+    if has { "+" } else { "-" }
+}
+
+fn ranges_shown(alloc: Global, lines: &str, name: &str) -> Result<String, AllocError> {
+    let vars = Vars::new(alloc, &[], "/w")?;
+    let mut interner = Interner::new(alloc);
+    let Ok(read) = Requirements::parse(alloc, lines.as_bytes(), &mut interner, &vars) else {
+        return String::from_str(alloc, "refused");
+    };
+    match Table::build(alloc, read, &mut interner, 8) {
+        Ok(table) => ranges_of(alloc, &table, name),
+        Err(_) => String::from_str(alloc, "refused"),
+    }
+}
+
+#[test]
+fn a_case_has_the_range_of_its_lines(rt: HostRuntime) -> Result<(), Fail> {
+    for (lines, want) in [
+        (
+            "foo>1 ; os_name == 'a'\nbar<1\nfoo!=1.5 ; os_name == 'b'",
+            "[1]+[3]-[]+",
+        ),
+        ("foo===1.5\nfoo<1 ; os_name == 'a'", "[1, 2]?[1]?"),
+        ("foo @ ./c ; os_name == 'a'\nfoo<2", "[1, 2]?[2]+"),
+        ("bar<1", ""),
+    ] {
+        assert_eq!(rt; ranges_shown(rt.alloc(), lines, "foo")?.as_str(), want);
+    }
+    Ok(())
+}
+
 /// Appends the indices of candidates.
 fn push_places(text: &mut String, placed: &[Placed<'_>]) -> Result<(), AllocError> {
     for one in placed {

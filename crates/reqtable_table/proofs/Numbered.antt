@@ -4,6 +4,7 @@ use Rattle.std.proofs.Common.{List, [], ◌∷◌, ◌++◌, map, filter, take, 
 use Rattle.std.proofs.Common.{refl, sym, ap, subst, arith, Less, Equal, Greater, inl, inr, Bor}
 use Rattle.std.proofs.lemmas.Bool.{cases_Bool}
 use Rattle.std.proofs.lemmas.Bool.Decides.{nat_tests}
+use Rattle.std.proofs.lemmas.List.{append-nil, append_assoc}
 use Rattle.std.proofs.lemmas.List.Sorted.{searchable_from_sorted}
 use Rattle.std.specs.Cmp.{nat_cmp_total, tied_itself}
 use Rattle.std.specs.List.{AllByRecursion}
@@ -152,6 +153,17 @@ no_line lines i n parted =
       | inl less ↦ below (get_or lines k d).number n (parted.0 k d (omega arith) less)
       | inr not_less ↦ behind (get_or lines k d).number n (parted.1 k d not_less within)
     ])
+
+pub lines_more : (ns : List ℕ) (n : ℕ) (lines : List KeptLine) →
+    lines_at (ns ++ n ∷ []) lines ≡ lines_at ns lines ++ filter (λ (line : KeptLine). line.number == n) lines
+lines_more [] n lines = append-nil (filter (has_number n) lines)
+lines_more (m ∷ ns) n lines =
+    ap (λ l. filter (has_number m) lines ++ l) (lines_more ns n lines)
+    ∙ sym (append_assoc (filter (has_number m) lines) (lines_at ns lines) (filter (has_number n) lines))
+
+pub none_rise : Rise []
+unfolding IsStrictlySortedBy
+none_rise = tt
 
 -- ---- marked lines by their numbers
 

@@ -79,8 +79,9 @@ fn lines_at<'a>(
 {
     let mut own = Vec::with_capacity(alloc, numbers.len())?;
     for number in numbers {
-        if let Some(line) = line_at(lines, *number) {
-            own.push(line)?;
+        match line_at(lines, *number) {
+            Some(line) => own.push(line)?,
+            None => (),
         }
     }
     Ok(own)

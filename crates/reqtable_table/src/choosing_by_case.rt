@@ -61,15 +61,7 @@ pub(crate) fn chosen<F: Fn(&Version, bool) -> bool>(
     while at < own.len() {
         let placed = own.at(at);
         let version = &placed.candidate.version;
-        match takes(
-            alloc,
-            lines,
-            marks,
-            range,
-            bounded,
-            version,
-            &mut first,
-        ) {
+        match takes(alloc, lines, marks, range, bounded, version, &mut first) {
             Ok(taken) => {
                 if taken && admission.admits(version, pre) {
                     return Ok(Some(placed.place));

@@ -26,9 +26,9 @@ ghost use Rattle.reqtable_table.specs.Runs.{AreOrdered, AreRunsOf, IsTold, AreTo
 ghost use Rattle.reqtable_table.specs.Standing.{HasItsFlags, IsOfTexts, HasItsLines};
 
 use crate::asked::{extras_of, mark, place_of};
+use crate::case_range::range_at;
 use crate::choosing_by_case::{any_marked, chosen};
 use crate::kept::TableLine;
-use crate::case_range::range_at;
 use crate::runs::Told;
 use crate::table::{Case, Package};
 use pep440_version::Version;
