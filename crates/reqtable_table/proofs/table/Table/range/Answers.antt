@@ -26,8 +26,8 @@ range_at-requires c =
     subst (λ l. Rise (map line_record l)) (sym c.deref-in-Ok.ensures.value)
     (all_at HasItsLines package_record table place kept c.in-Ok.ensures.bound is lines).rising
 
-pub range_at-requires-2 : goal.range_at-requires-2
-range_at-requires-2 c = none_rise
+pub range_at-requires-in-Err : goal.range_at-requires-in-Err
+range_at-requires-in-Err c = none_rise
 
 pub returns-in-Ok : goal.returns-in-Ok
 returns-in-Ok c =
