@@ -42,7 +42,6 @@ pub fn cases_are_those_of_the_lines()
 
 /// The range of the lines that have a case's numbers, of those that a table keeps of a package, is the range of
 /// what the case's lines require.
-#[tactic(auto, using(crate::proofs::CasesOfLines::range_of_case))]
 pub fn ranges_are_those_of_the_lines()
     ensures { (nodes : List NodeRecord) (table : List KeptPackage) (said : List LineRecord) (name : List ℕ)
         (case : KeptCase) (set : Marks × Tree) (range : Option (List (Point VersionRecord))) →
