@@ -12,7 +12,7 @@ returns-then-is_empty c = (
 
 pub returns-in-Some : goal.returns-in-Some
 returns-in-Some c =
-    has_none (kept_under c.args.name.now c.args.table.now) (case_record c.args.case.now) c.in-Some.range.now
+    has_none (kept_under c.args.name.now c.args.table.now) (case_record c.args.case.now) c.in-Some.range
     c.holds_nothing.result (search rules) (search rules) c.holds_nothing.ensures
 
 pub returns-in-None : goal.returns-in-None
