@@ -113,7 +113,8 @@ fn add_conflicts(
         (map conflict_record found.old.items) (map conflict_record found.new.items)) }
 {
     for case in cases {
-        if is_conflict(alloc, table, name, case)? {
+        let conflicting = is_conflict(alloc, table, name, case)?;
+        if conflicting {
             push_conflict(alloc, found, name, case)?;
         }
     }
