@@ -90,7 +90,7 @@ static struct text environment(int depth) {
 
 static void marker(const char *what, struct text text, unsigned wanted) {
     static uint8_t out[8 << 20];
-    reqs_reply reply = reqs_marker(text.bytes, text.length, out, sizeof out);
+    reqs_reply reply = reqs_marker(text.bytes, text.length, BOUNDS, out, sizeof out);
     if (reply.status != wanted) {
         fails(what, reply.status);
     }
@@ -179,13 +179,13 @@ static void meanings(int most, int printed) {
     static uint8_t out[1 << 20];
     struct text all = extras(most), some = extras(most / 5), few = extras(printed), list = exclusions(most / 5);
     const uint8_t *lower = (const uint8_t *)"3.8", *upper = (const uint8_t *)"3.9", *absent = (const uint8_t *)"y\n";
-    answered("key", reqs_marker_key(all.bytes, all.length, out, sizeof out));
-    says("truth", reqs_marker_truth(all.bytes, all.length, out, sizeof out), out, '-');
-    says("disjoint", reqs_markers_disjoint(all.bytes, all.length, some.bytes, some.length, out, sizeof out), out, '0');
-    says("implies", reqs_marker_implies(some.bytes, some.length, all.bytes, all.length, out, sizeof out), out, '1');
-    answered("negated", reqs_marker_negated(few.bytes, few.length, out, sizeof out));
-    answered("python", reqs_marker_simplify_python(few.bytes, few.length, lower, 3, upper, 3, out, sizeof out));
-    answered("extras", reqs_marker_simplify_extras(few.bytes, few.length, absent, 2, out, sizeof out));
+    answered("key", reqs_marker_key(all.bytes, all.length, REQS_NO_BOUND, out, sizeof out));
+    says("truth", reqs_marker_truth(all.bytes, all.length, REQS_NO_BOUND, out, sizeof out), out, '-');
+    says("disjoint", reqs_markers_disjoint(all.bytes, all.length, some.bytes, some.length, REQS_NO_BOUND, out, sizeof out), out, '0');
+    says("implies", reqs_marker_implies(some.bytes, some.length, all.bytes, all.length, REQS_NO_BOUND, out, sizeof out), out, '1');
+    answered("negated", reqs_marker_negated(few.bytes, few.length, BOUNDS, out, sizeof out));
+    answered("python", reqs_marker_simplify_python(few.bytes, few.length, lower, 3, upper, 3, BOUNDS, out, sizeof out));
+    answered("extras", reqs_marker_simplify_extras(few.bytes, few.length, absent, 2, BOUNDS, out, sizeof out));
     says("ranges disjoint", reqs_specifiers_disjoint(list.bytes, list.length, list.bytes, list.length, out, sizeof out), out,
          '0');
     says("subset", reqs_specifiers_subset(list.bytes, list.length, list.bytes, list.length, out, sizeof out), out, '1');
@@ -226,7 +226,7 @@ static void *turns(void *number) {
             fails("threads: a version", reply.status);
         }
         n = snprintf(text, sizeof text, "'a%d.%d'==os_name", i, *(int *)number);
-        reply = reqs_marker((uint8_t *)text, (size_t)n, out, sizeof out);
+        reply = reqs_marker((uint8_t *)text, (size_t)n, BOUNDS, out, sizeof out);
         n = snprintf(wanted, sizeof wanted, "os_name == 'a%d.%d'", i, *(int *)number);
         if (reply.status != REQS_ANSWERED || reply.length != (size_t)n || memcmp(out, wanted, reply.length) != 0) {
             fails("threads: a marker", reply.status);

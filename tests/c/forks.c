@@ -117,39 +117,39 @@ static reqs_reply requirement(uint8_t *out) {
 }
 
 static reqs_reply marker(uint8_t *out) {
-    return reqs_marker(TEXT(MARKER), OUT);
+    return reqs_marker(TEXT(MARKER), BOUNDS, OUT);
 }
 
 static reqs_reply no_marker(uint8_t *out) {
-    return reqs_marker(TEXT("os_name == 'nt' or"), OUT);
+    return reqs_marker(TEXT("os_name == 'nt' or"), BOUNDS, OUT);
 }
 
 static reqs_reply marker_key(uint8_t *out) {
-    return reqs_marker_key(TEXT(MARKER), OUT);
+    return reqs_marker_key(TEXT(MARKER), REQS_NO_BOUND, OUT);
 }
 
 static reqs_reply marker_truth(uint8_t *out) {
-    return reqs_marker_truth(TEXT(MARKER), OUT);
+    return reqs_marker_truth(TEXT(MARKER), REQS_NO_BOUND, OUT);
 }
 
 static reqs_reply markers_disjoint(uint8_t *out) {
-    return reqs_markers_disjoint(TEXT(MARKER), TEXT("os_name == 'posix' and extra != 'a'"), OUT);
+    return reqs_markers_disjoint(TEXT(MARKER), TEXT("os_name == 'posix' and extra != 'a'"), REQS_NO_BOUND, OUT);
 }
 
 static reqs_reply marker_implies(uint8_t *out) {
-    return reqs_marker_implies(TEXT("os_name == 'nt'"), TEXT(MARKER), OUT);
+    return reqs_marker_implies(TEXT("os_name == 'nt'"), TEXT(MARKER), REQS_NO_BOUND, OUT);
 }
 
 static reqs_reply marker_negated(uint8_t *out) {
-    return reqs_marker_negated(TEXT(MARKER), OUT);
+    return reqs_marker_negated(TEXT(MARKER), BOUNDS, OUT);
 }
 
 static reqs_reply marker_simplify_python(uint8_t *out) {
-    return reqs_marker_simplify_python(TEXT(MARKER), TEXT("3.7"), TEXT("3.9"), OUT);
+    return reqs_marker_simplify_python(TEXT(MARKER), TEXT("3.7"), TEXT("3.9"), BOUNDS, OUT);
 }
 
 static reqs_reply marker_simplify_extras(uint8_t *out) {
-    return reqs_marker_simplify_extras(TEXT(MARKER), TEXT("a\n"), OUT);
+    return reqs_marker_simplify_extras(TEXT(MARKER), TEXT("a\n"), BOUNDS, OUT);
 }
 
 static reqs_reply markers_hold(uint8_t *out) {

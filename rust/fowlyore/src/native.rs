@@ -1,6 +1,6 @@
 //! The C functions of `include/reqs.h`: texts are passed as slices, and a text or a refusal is returned.
 
-use crate::Refused;
+use crate::{Bounds, Refused};
 use std::alloc::{handle_alloc_error, Layout};
 
 /// How a call ended: `reqs_reply` of `reqs.h`.
@@ -14,7 +14,7 @@ pub(crate) struct Reply {
     len: usize,
 }
 
-const ABI: u32 = 3;
+const ABI: u32 = 4;
 const DIFFERENT: u32 = 1;
 const REFUSED: u32 = 2;
 const MEMORY: u32 = 3;
@@ -95,27 +95,38 @@ extern "C" {
         out: *mut u8, out_len: usize,
     ) -> Reply;
     fn reqs_requirement(text: *const u8, text_len: usize, out: *mut u8, out_len: usize) -> Reply;
-    fn reqs_marker(text: *const u8, text_len: usize, out: *mut u8, out_len: usize) -> Reply;
+    fn reqs_marker_check(text: *const u8, text_len: usize, out: *mut u8, out_len: usize) -> Reply;
+    fn reqs_marker(
+        text: *const u8, text_len: usize, nodes: usize, clauses: usize, out: *mut u8, out_len: usize,
+    ) -> Reply;
     fn reqs_markers_hold(
         markers: *const u8, markers_len: usize, environment: *const u8, environment_len: usize,
         extras: *const u8, extras_len: usize, out: *mut u8, out_len: usize,
     ) -> Reply;
-    fn reqs_marker_key(text: *const u8, text_len: usize, out: *mut u8, out_len: usize) -> Reply;
-    fn reqs_marker_truth(text: *const u8, text_len: usize, out: *mut u8, out_len: usize) -> Reply;
+    fn reqs_marker_key(
+        text: *const u8, text_len: usize, nodes: usize, out: *mut u8, out_len: usize,
+    ) -> Reply;
+    fn reqs_marker_truth(
+        text: *const u8, text_len: usize, nodes: usize, out: *mut u8, out_len: usize,
+    ) -> Reply;
     fn reqs_markers_disjoint(
-        left: *const u8, left_len: usize, right: *const u8, right_len: usize, out: *mut u8, out_len: usize,
+        left: *const u8, left_len: usize, right: *const u8, right_len: usize,
+        nodes: usize, out: *mut u8, out_len: usize,
     ) -> Reply;
     fn reqs_marker_implies(
-        left: *const u8, left_len: usize, right: *const u8, right_len: usize, out: *mut u8, out_len: usize,
+        left: *const u8, left_len: usize, right: *const u8, right_len: usize,
+        nodes: usize, out: *mut u8, out_len: usize,
     ) -> Reply;
-    fn reqs_marker_negated(text: *const u8, text_len: usize, out: *mut u8, out_len: usize) -> Reply;
+    fn reqs_marker_negated(
+        text: *const u8, text_len: usize, nodes: usize, clauses: usize, out: *mut u8, out_len: usize,
+    ) -> Reply;
     fn reqs_marker_simplify_python(
         text: *const u8, text_len: usize, lower: *const u8, lower_len: usize,
-        upper: *const u8, upper_len: usize, out: *mut u8, out_len: usize,
+        upper: *const u8, upper_len: usize, nodes: usize, clauses: usize, out: *mut u8, out_len: usize,
     ) -> Reply;
     fn reqs_marker_simplify_extras(
         text: *const u8, text_len: usize, extras: *const u8, extras_len: usize,
-        out: *mut u8, out_len: usize,
+        nodes: usize, clauses: usize, out: *mut u8, out_len: usize,
     ) -> Reply;
     fn reqs_specifiers_disjoint(
         left: *const u8, left_len: usize, right: *const u8, right_len: usize, out: *mut u8, out_len: usize,
@@ -234,13 +245,13 @@ fn extra_lines(extras: &[&str], input: u32) -> Result<String, Refused> {
 }
 
 /// The answer of a function about texts, each of which is passed as a pointer and a length, and perhaps with
-/// a limit.
+/// numbers.
 macro_rules! asked {
-    ($call:ident, $room:expr, $($text:ident),+ $(; $limit:ident)?) => {
+    ($call:ident, $room:expr, $($text:ident),+ $(; $($number:expr),+)?) => {
         // SAFETY: the pointers and lengths are those of slices that live until the call is over, and `out` is
         // a buffer of its own.
         answered($room, |out, len| unsafe {
-            $call($($text.as_ptr(), $text.len(),)+ $($limit,)? out, len)
+            $call($($text.as_ptr(), $text.len(),)+ $($($number,)+)? out, len)
         })
     };
 }
@@ -295,31 +306,38 @@ pub(crate) fn requirement(text: &str) -> Result<String, Refused> {
     asked!(reqs_requirement, ROOM + text.len(), text).map(Answer::text)
 }
 
+/// Whether a text is a marker: the refusal of one that is not.
+pub(crate) fn marker_check(text: &str) -> Result<(), Refused> {
+    asked!(reqs_marker_check, ROOM, text).map(|_| ())
+}
+
 /// The normal text of a marker.
-pub(crate) fn marker(text: &str) -> Result<String, Refused> {
-    asked!(reqs_marker, ROOM + text.len(), text).map(Answer::text)
+pub(crate) fn marker(text: &str, bounds: Bounds) -> Result<String, Refused> {
+    let Bounds { nodes, clauses } = bounds;
+    asked!(reqs_marker, ROOM + text.len(), text; nodes, clauses).map(Answer::text)
 }
 
 /// The key of a marker, in which a comparison is seldom longer than eight times its text.
-pub(crate) fn marker_key(text: &str) -> Result<Vec<u8>, Refused> {
-    asked!(reqs_marker_key, ROOM + 8 * text.len(), text).map(|it| it.bytes)
+pub(crate) fn marker_key(text: &str, nodes: usize) -> Result<Vec<u8>, Refused> {
+    asked!(reqs_marker_key, ROOM + 8 * text.len(), text; nodes).map(|it| it.bytes)
 }
 
 /// When a marker holds, as the library writes it: `1` always, `0` never, `-` sometimes.
-pub(crate) fn marker_truth(text: &str) -> Result<u8, Refused> {
-    asked!(reqs_marker_truth, ROOM, text).map(|it| it.bytes[0])
+pub(crate) fn marker_truth(text: &str, nodes: usize) -> Result<u8, Refused> {
+    asked!(reqs_marker_truth, ROOM, text; nodes).map(|it| it.bytes[0])
 }
 
-pub(crate) fn markers_disjoint(left: &str, right: &str) -> Result<bool, Refused> {
-    asked!(reqs_markers_disjoint, ROOM, left, right).map(|it| it.is_yes())
+pub(crate) fn markers_disjoint(left: &str, right: &str, nodes: usize) -> Result<bool, Refused> {
+    asked!(reqs_markers_disjoint, ROOM, left, right; nodes).map(|it| it.is_yes())
 }
 
-pub(crate) fn marker_implies(left: &str, right: &str) -> Result<bool, Refused> {
-    asked!(reqs_marker_implies, ROOM, left, right).map(|it| it.is_yes())
+pub(crate) fn marker_implies(left: &str, right: &str, nodes: usize) -> Result<bool, Refused> {
+    asked!(reqs_marker_implies, ROOM, left, right; nodes).map(|it| it.is_yes())
 }
 
-pub(crate) fn marker_negated(text: &str) -> Result<String, Refused> {
-    asked!(reqs_marker_negated, ROOM + text.len(), text).map(Answer::text)
+pub(crate) fn marker_negated(text: &str, bounds: Bounds) -> Result<String, Refused> {
+    let Bounds { nodes, clauses } = bounds;
+    asked!(reqs_marker_negated, ROOM + text.len(), text; nodes, clauses).map(Answer::text)
 }
 
 /// The normal text of a marker, simplified to versions of Python between the bounds; an empty text is no
@@ -328,15 +346,22 @@ pub(crate) fn marker_simplify_python(
     text: &str,
     lower: &str,
     upper: &str,
+    bounds: Bounds,
 ) -> Result<String, Refused> {
+    let Bounds { nodes, clauses } = bounds;
     let room = ROOM + text.len();
-    asked!(reqs_marker_simplify_python, room, text, lower, upper).map(Answer::text)
+    asked!(reqs_marker_simplify_python, room, text, lower, upper; nodes, clauses).map(Answer::text)
 }
 
-pub(crate) fn marker_simplify_extras(text: &str, extras: &[&str]) -> Result<String, Refused> {
+pub(crate) fn marker_simplify_extras(
+    text: &str,
+    extras: &[&str],
+    bounds: Bounds,
+) -> Result<String, Refused> {
+    let Bounds { nodes, clauses } = bounds;
     let extras = extra_lines(extras, EXTRAS_TO_SIMPLIFY)?;
     let room = ROOM + text.len();
-    asked!(reqs_marker_simplify_extras, room, text, extras).map(Answer::text)
+    asked!(reqs_marker_simplify_extras, room, text, extras; nodes, clauses).map(Answer::text)
 }
 
 /// Whether a text was refused as that of a marker that never holds, which has no normal text.
@@ -487,7 +512,7 @@ mod tests {
     fn long_texts_are_read_once() {
         let long = "a".repeat(1000);
         let again = asked_again(|| {
-            assert!(marker(&format!("os_name == '{long}'")).is_ok());
+            assert!(marker(&format!("os_name == '{long}'"), Bounds::default()).is_ok());
             assert!(requirement(&format!("foo @ https://example.org/{long}")).is_ok());
             assert!(specifiers(&format!(">=1+{long}")).is_err());
             assert!(specifiers(&format!("==1+{long}")).is_ok());
@@ -509,7 +534,7 @@ mod tests {
                 "os_name == 'nt'",
                 "python_version in '3.8 3.9 3.11'",
             ] {
-                assert!(!marker_key(text).unwrap().is_empty());
+                assert!(!marker_key(text, usize::MAX).unwrap().is_empty());
             }
         });
         assert_eq!(again, 0);

@@ -23,6 +23,27 @@ pub struct Refused {
     pub len: usize,
 }
 
+impl Refused {
+    /// Whether a marker's tree has more nodes than the call may make ([`Bounds`](crate::Bounds)).
+    #[must_use]
+    pub fn is_of_nodes(&self) -> bool {
+        self.is_beyond(" nodes")
+    }
+
+    /// Whether a marker would be printed of more clauses than the call may make ([`Bounds`](crate::Bounds)).
+    #[must_use]
+    pub fn is_of_clauses(&self) -> bool {
+        self.is_beyond(" clauses")
+    }
+
+    /// Whether it is for a bound on what is counted so.
+    fn is_beyond(&self, counted: &str) -> bool {
+        let number = self.message.strip_prefix("more than ");
+        let number = number.and_then(|it| it.strip_suffix(counted));
+        number.map_or(false, |it| it.bytes().all(|digit| digit.is_ascii_digit()))
+    }
+}
+
 impl fmt::Display for Refused {
     fn fmt(&self, f: &mut fmt::Formatter<'_>) -> fmt::Result {
         f.write_str(&self.message)

@@ -1,0 +1,58 @@
+-- Trees within bounds.
+use Rattle.std.proofs.Common.{◌≡◌, ℕ, true, List, Result, Ok, IfOk, inl, inr, subst}
+use Rattle.std.specs.Str.{is_utf8, chars}
+use Rattle.pep508_marker.specs.Expression.{ExpressionRecord}
+use Rattle.pep508_formula.specs.Postfix.{Part, formula_of}
+use Rattle.pep508_marker_parser.specs.Formula.{Formula}
+use Rattle.pep508_marker_parser.specs.MarkerOutcome.{IsTreeOf}
+use Rattle.pep508_marker_parser.specs.MarkerReading.{Marker, marker_at}
+use Rattle.pep508_tree.specs.Tree.{Tree}
+use Rattle.pep508_tree.specs.Meaning.{NodeRecord}
+use Rattle.reqs_c_reply.specs.Endings.{Ending, EndsIn, NoAnswer}
+use Rattle.reqs_c_reply.proofs.Ends.{refused_more}
+use Rattle.reqs_c_markers.specs.Markers.{IsFormulaIn, IsMarkerTree, AreMore, HasMoreNodes, RefusesMarker, RefusesTree}
+
+-- the formula that was read is that of the marker
+pub formula_read : {W : Marker → Type 0} (bytes text : List ℕ) (parts : List (Part ExpressionRecord))
+    → is_utf8 bytes ≡ true → text ≡ bytes
+    → (marker : Marker) × (marker_at (chars text) ≡ Ok marker) × (formula_of parts ≡ marker.formula) × W marker
+    → IsFormulaIn bytes parts
+formula_read bytes text parts e is read = record {
+  marker = read.0;
+  is_marker = record {
+    is_utf8_text = e;
+    is_marker = subst (λ (bs : List ℕ). marker_at (chars bs) ≡ Ok read.0) is read.1;
+  };
+  is_formula = read.2;
+}
+
+-- the tree that was made of a marker's formula is the marker's
+pub marker_tree : {E : Type 0} (nodes : List NodeRecord) (bytes : List ℕ) (parts : List (Part ExpressionRecord))
+    (made : Result Tree E) (tree : Tree) → IsFormulaIn bytes parts → made ≡ Ok tree
+    → IfOk made (λ tree. IsTreeOf nodes tree (formula_of parts)) → IsMarkerTree nodes bytes tree
+marker_tree nodes bytes parts made tree formula is h = record {
+  marker = formula.marker;
+  is_marker = formula.is_marker;
+  is_tree =
+      subst (λ (f : Formula ExpressionRecord). IsTreeOf nodes tree f) formula.is_formula
+      (subst (λ r. IfOk r (λ t. IsTreeOf nodes t (formula_of parts))) is h);
+}
+
+module _ (input most : ℕ) (bytes : List ℕ) where
+  -- a text that is no marker is refused
+  pub no_marker : (ending : Ending) → EndsIn NoAnswer (RefusesMarker input bytes) ending
+      → EndsIn NoAnswer (RefusesTree input most bytes) ending
+  no_marker ending h =
+      refused_more NoAnswer (RefusesTree input most bytes) (RefusesMarker input bytes) (λ place message no. inl no)
+      ending h
+
+  -- and so is a marker with too many nodes
+  pub many_nodes : (parts : List (Part ExpressionRecord)) (ending : Ending) → IsFormulaIn bytes parts
+      → EndsIn NoAnswer (AreMore input most) ending → EndsIn NoAnswer (RefusesTree input most bytes) ending
+  many_nodes parts ending formula h =
+      refused_more NoAnswer (RefusesTree input most bytes) (AreMore input most)
+      (λ place message more. inr (record {
+        marker = formula.marker;
+        is_marker = formula.is_marker;
+        are_more = more;
+      })) ending h
