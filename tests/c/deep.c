@@ -15,6 +15,7 @@
 
 #define THREADS 4
 #define TURNS 300
+#define BOUNDS REQS_NO_BOUND, REQS_NO_BOUND
 
 static int failed;
 

