@@ -63,7 +63,8 @@ class Usual(unittest.TestCase):
             self.assertEqual(str(Requirement(f"a; {text}")), f"a; {text}")
             both, one = marker & Marker("os_name == 'a'"), marker | Marker("os_name == 'a'")
             self.assertTrue(one.evaluate({"os_name": "a"}) and not both.evaluate({"os_name": "a"}))
-        self.assertEqual(Marker(nodes_grow()), Marker(nodes_grow()))
+        again = Marker(nodes_grow())
+        self.assertTrue(again == Marker(f" {nodes_grow()} "))
 
     def test_bounds_that_are_set(self):
         marker = Marker(SMALL)

@@ -8,3 +8,4 @@ pub mod Minor
 pub mod Adding
 pub mod Constants
 pub mod Walking
+pub mod Counting

@@ -27,11 +27,11 @@ take_within (suc m) (suc n) [] less = refl
 take_within (suc m) (suc n) (x ∷ xs) less = ap (λ ys. x ∷ ys) (take_within m n xs (omega arith))
 
 module _ {C : Type 0} (P : C → Type 0) where
-  all_append : (xs ys : List C) → AllByRecursion P xs → AllByRecursion P ys → AllByRecursion P (xs ++ ys)
+  pub all_append : (xs ys : List C) → AllByRecursion P xs → AllByRecursion P ys → AllByRecursion P (xs ++ ys)
   all_append [] ys p q = q
   all_append (x ∷ xs) ys p q = (p.0, all_append xs ys p.1 q)
 
-  all_before : (xs : List C) (x : C) → AllByRecursion P (xs ++ x ∷ []) → AllByRecursion P xs × P x
+  pub all_before : (xs : List C) (x : C) → AllByRecursion P (xs ++ x ∷ []) → AllByRecursion P xs × P x
   all_before [] x all = (tt, all.0)
   all_before (y ∷ xs) x all = let later = all_before xs x all.1 in ((all.0, later.0), later.1)
 
@@ -41,7 +41,7 @@ module _ {C : Type 0} (P : C → Type 0) where
       subst (AllByRecursion P) (sym (reverse-append (x ∷ []) xs))
       (all_append (reverse xs) (x ∷ []) (all_reverse xs all.1) (all.0, tt))
 
-all_weaker : {C : Type 0} (P Q : C → Type 0) → ((x : C) → P x → Q x) → (xs : List C) → AllByRecursion P xs →
+pub all_weaker : {C : Type 0} (P Q : C → Type 0) → ((x : C) → P x → Q x) → (xs : List C) → AllByRecursion P xs →
     AllByRecursion Q xs
 all_weaker P Q so [] p = tt
 all_weaker P Q so (x ∷ xs) p = (so x p.0, all_weaker P Q so xs p.1)
@@ -146,11 +146,11 @@ module _ (nodes : List NodeRecord) where
 
   -- ---- the work that is left: how many steps paths have
 
-  abbrev total : (Tree → ℕ) → List StepRecord → ℕ
+  abbrev pub total : (Tree → ℕ) → List StepRecord → ℕ
   total f [] = 0
   total f (step ∷ steps) = f step.tree + total f steps
 
-  size : ℕ → Tree → ℕ
+  pub size : ℕ → Tree → ℕ
   size zero tree = 1
   size (suc n) tree = suc (total (λ t. size n t) (root_steps (root_of nodes tree)))
 
@@ -171,7 +171,7 @@ module _ (nodes : List NodeRecord) where
             (root_steps (root_of nodes tree)),
       )
 
-  abbrev weight : Tree → ℕ
+  abbrev pub weight : Tree → ℕ
   weight tree = size tree.place tree
 
   below_most : (p : ℕ) (steps : List StepRecord) → AllLead (λ t. t.place ≤ p) steps →
@@ -180,7 +180,7 @@ module _ (nodes : List NodeRecord) where
   below_most p (step ∷ steps) all =
       omega (arith, size_more step.tree.place p step.tree all.0, below_most p steps all.1)
 
-  steps_weigh : (p : ℕ) (tree : Tree) (steps : List StepRecord) → AllLead (λ t. t.place < p) steps →
+  pub steps_weigh : (p : ℕ) (tree : Tree) (steps : List StepRecord) → AllLead (λ t. t.place < p) steps →
       steps ≡ root_steps (root_of nodes tree) → total weight steps < size p tree
   unfolding size
   steps_weigh zero tree [] all is = omega arith
@@ -211,7 +211,7 @@ module _ (nodes : List NodeRecord) where
       ∙ work_append (all_at depth (reverse steps)) ((depth, step) ∷ []) in
       omega (arith, cut, work_steps depth steps)
 
-  size_some : (n : ℕ) (tree : Tree) → 0 < size n tree
+  pub size_some : (n : ℕ) (tree : Tree) → 0 < size n tree
   unfolding size
   size_some zero tree = omega arith
   size_some (suc n) tree = omega arith

@@ -4,3 +4,5 @@ pub mod Spans
 pub mod Steps
 pub mod Pending
 pub mod TopExtra
+pub mod Counted
+pub mod Ends

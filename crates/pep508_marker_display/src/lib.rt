@@ -3,6 +3,7 @@
 #![tactic(auto)]
 
 mod child_clauses;
+mod clause_count;
 mod clause_walk;
 mod intervals;
 mod marker_tree_text;
@@ -10,4 +11,5 @@ mod required_extra;
 mod says;
 mod steps;
 
+pub use clause_count::has_more_clauses;
 pub use marker_tree_text::MarkerTreeText;

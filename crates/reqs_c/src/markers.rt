@@ -122,14 +122,8 @@ pub extern "C" fn reqs_marker_simplify_python(
         (SimplifiedPythonEnds (record { nodes = nodes; clauses = clauses }) text.now lower.now upper.now)
         out.old out.new result }
 {
-    reqs_c_algebra::marker_simplify_python(
-        alloc,
-        text,
-        lower,
-        upper,
-        Bounds { nodes, clauses },
-        out,
-    )
+    let bounds = Bounds { nodes, clauses };
+    reqs_c_algebra::marker_simplify_python(alloc, text, lower, upper, bounds, out)
 }
 
 /// The normal text of a marker, under the assumption that the extras, one per line, are present.

@@ -5,7 +5,7 @@ use Rattle.pep508_diagram.specs.Diagram.{Diagram}
 use Rattle.pep508_diagram.specs.Question.{Question, truth}
 use Rattle.reqs_c_reply.specs.Endings.{Ending, Answered, Different, Refused, OutOfMemory, EndsIn, NoAnswer, span}
 use Rattle.reqs_c_reply.proofs.Ends.{refused_with, refused_more, answered_with}
-use Rattle.reqs_c_markers.specs.NormalTexts.{clause_count}
+use Rattle.pep508_marker_display.specs.Counted.{clause_count}
 use Rattle.pep508_marker_text_laws.specs.MarkerText.{marker_text}
 use Rattle.reqs_c_markers.specs.declared.bounds.Bounds.{Bounds}
 use Rattle.reqs_c_markers.specs.declared.normal_texts.TextFault.{TextFault}

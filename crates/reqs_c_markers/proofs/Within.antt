@@ -1,5 +1,5 @@
 -- Trees within bounds.
-use Rattle.std.proofs.Common.{◌≡◌, ℕ, true, List, Result, Ok, IfOk, inl, inr, subst}
+use Rattle.std.proofs.Common.{◌≡◌, ℕ, true, List, Result, Ok, Err, IfOk, IfErr, inl, inr, subst}
 use Rattle.std.specs.Str.{is_utf8, chars}
 use Rattle.pep508_marker.specs.Expression.{ExpressionRecord}
 use Rattle.pep508_formula.specs.Postfix.{Part, formula_of}
@@ -8,22 +8,22 @@ use Rattle.pep508_marker_parser.specs.MarkerOutcome.{IsTreeOf}
 use Rattle.pep508_marker_parser.specs.MarkerReading.{Marker, marker_at}
 use Rattle.pep508_tree.specs.Tree.{Tree}
 use Rattle.pep508_tree.specs.Meaning.{NodeRecord}
-use Rattle.reqs_c_reply.specs.Endings.{Ending, EndsIn, NoAnswer}
+use Rattle.reqs_c_reply.specs.declared.ended.Ended.{Ended}
+use Rattle.reqs_c_reply.specs.Endings.{Ending, EndsIn, NoAnswer, ending_of}
 use Rattle.reqs_c_reply.proofs.Ends.{refused_more}
 use Rattle.reqs_c_markers.specs.Markers.{IsFormulaIn, IsMarkerTree, AreMore, HasMoreNodes, RefusesMarker, RefusesTree}
 
 -- the formula that was read is that of the marker
-pub formula_read : {W : Marker → Type 0} (bytes text : List ℕ) (parts : List (Part ExpressionRecord))
-    → is_utf8 bytes ≡ true → text ≡ bytes
-    → (marker : Marker) × (marker_at (chars text) ≡ Ok marker) × (formula_of parts ≡ marker.formula) × W marker
+pub formula_read : (bytes text : List ℕ) (parts : List (Part ExpressionRecord)) (marker : Marker)
+    → is_utf8 bytes ≡ true → text ≡ bytes → marker_at (chars text) ≡ Ok marker → formula_of parts ≡ marker.formula
     → IsFormulaIn bytes parts
-formula_read bytes text parts e is read = record {
-  marker = read.0;
+formula_read bytes text parts marker e is reading formula = record {
+  marker = marker;
   is_marker = record {
     is_utf8_text = e;
-    is_marker = subst (λ (bs : List ℕ). marker_at (chars bs) ≡ Ok read.0) is read.1;
+    is_marker = subst (λ (bs : List ℕ). marker_at (chars bs) ≡ Ok marker) is reading;
   };
-  is_formula = read.2;
+  is_formula = formula;
 }
 
 -- the tree that was made of a marker's formula is the marker's
@@ -37,6 +37,13 @@ marker_tree nodes bytes parts made tree formula is h = record {
       subst (λ (f : Formula ExpressionRecord). IsTreeOf nodes tree f) formula.is_formula
       (subst (λ r. IfOk r (λ t. IsTreeOf nodes t (formula_of parts))) is h);
 }
+
+pub tree_read : {X E : Type 0} (nodes : List NodeRecord) (bytes : List ℕ) (parts : List (Part ExpressionRecord))
+    (made : Result Tree E) (result : Result Tree X) → IsFormulaIn bytes parts
+    → IfOk result (λ tree. made ≡ Ok tree) → IfOk made (λ tree. IsTreeOf nodes tree (formula_of parts))
+    → IfOk result (IsMarkerTree nodes bytes)
+tree_read nodes bytes parts made (Ok tree) formula is h = marker_tree nodes bytes parts made tree formula is h
+tree_read nodes bytes parts made (Err error) formula is h = tt
 
 module _ (input most : ℕ) (bytes : List ℕ) where
   -- a text that is no marker is refused
@@ -56,3 +63,10 @@ module _ (input most : ℕ) (bytes : List ℕ) where
         is_marker = formula.is_marker;
         are_more = more;
       })) ending h
+
+  pub nodes_refused : {X : Type 0} (parts : List (Part ExpressionRecord)) (result : Result X Ended)
+      → IsFormulaIn bytes parts
+      → IfErr result (λ ended. EndsIn NoAnswer (AreMore input most) (ending_of ended))
+      → IfErr result (λ ended. EndsIn NoAnswer (RefusesTree input most bytes) (ending_of ended))
+  nodes_refused parts (Ok tree) formula h = tt
+  nodes_refused parts (Err ended) formula h = many_nodes parts (ending_of ended) formula h

@@ -6,10 +6,7 @@ use Rattle.pep508_diagram.specs.Diagram.{Diagram, Leaf, Test}
 use Rattle.pep508_diagram.specs.Question.{Question, Valuation, truth, IsCanonical}
 use Rattle.pep508_diagram.specs.Shortened.{HasShortVersions}
 use Rattle.pep508_marker_text_laws.specs.MarkerText.{marker_text}
-use Rattle.std.specs.Prelude.{length}
-use Rattle.std.specs.List.{filter}
-use Rattle.pep508_marker_text_laws.specs.Clauses.{clauses_of}
-use Rattle.pep508_marker_text_laws.specs.Simplified.{has_some}
+use Rattle.pep508_marker_display.specs.Counted.{clause_count}
 use Rattle.pep508_questions.specs.Asks.{asks_any, has_quote, is_of_deprecated_key, is_other_bound}
 use Rattle.reqs_c_reply.specs.declared.place.Place.{Place}
 use Rattle.reqs_c_reply.specs.Endings.{Ending, EndsIn, span}
@@ -43,9 +40,6 @@ text_fault_words SingleQuote = codes "single quote"
 text_fault_words DeprecatedKey = codes "deprecated key"
 text_fault_words VersionBound = codes "version bound"
 text_fault_words NeverHolds = codes "never holds"
-
-abbrev pub clause_count : Diagram Question → ℕ
-clause_count diagram = length (filter has_some (clauses_of diagram))
 
 -- ---- the text
 

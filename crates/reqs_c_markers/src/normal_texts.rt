@@ -5,14 +5,13 @@ ghost use Rattle.pep508_diagram.specs.Diagram.{Diagram};
 ghost use Rattle.pep508_diagram.specs.Question.{Question};
 ghost use Rattle.pep508_tree.specs.Meaning.{IsTree, diagram_of};
 ghost use Rattle.pep508_marker_text_laws.specs.MarkerText.{marker_text};
-ghost use Rattle.reqs_c_markers.specs.NormalTexts.{clause_count};
-ghost use Rattle.std.specs.Prelude.{IsTrue, ◌↔◌};
+ghost use Rattle.pep508_marker_display.specs.Counted.{clause_count};
 ghost use Rattle.pep508_questions.specs.Asks.{asked_by};
 ghost use Rattle.reqs_c_reply.specs.Endings.{EndsIn, NoAnswer, ending_of};
-ghost use Rattle.reqs_c_markers.specs.NormalTexts.{IsNormalDiagram, DiagramEnds, HasNoText, LacksText};
+ghost use Rattle.reqs_c_markers.specs.NormalTexts.{IsNormalDiagram, DiagramEnds, HasNoText, HasMoreClauses};
 ghost use Rattle.reqs_c_markers.specs.NormalTexts.{never_holds, text_fault, text_fault_words};
 
-use pep508_marker_display::MarkerTreeText;
+use pep508_marker_display::{MarkerTreeText, has_more_clauses};
 use pep508_questions::{Asked, MarkerTreeQuestions};
 use pep508_tree::{Interner, MarkerTree};
 use reqs_c_reply::{Ended, Place};
@@ -78,18 +77,10 @@ fn text_within(alloc: Global, interner: &Interner, tree: MarkerTree, most: usize
     }
 }
 
-fn has_more_clauses(_alloc: Global, _tree: MarkerTree, _interner: &Interner, _most: usize) -> Result<bool, AllocError>
-    requires { IsTree _interner.now.nodes _tree }
-    ensures more { IfOk result (λ more.
-        IsTrue more ↔ (_most < clause_count (diagram_of _interner.now.nodes _tree))) }
-{
-    Err(AllocError)
-}
-
 /// The end of a call whose marker has more than `most` clauses.
 fn more_clauses(alloc: Global, most: usize) -> Ended
     ensures { (diagram : Diagram Question) → text_fault diagram ≡ None → most < clause_count diagram →
-        EndsIn NoAnswer (LacksText most diagram) (ending_of result) }
+        EndsIn NoAnswer (HasMoreClauses most diagram) (ending_of result) }
 {
     Ended::refused(
         Place::span(1, 0, 0),

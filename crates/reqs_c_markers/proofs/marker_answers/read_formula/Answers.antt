@@ -6,7 +6,7 @@ pub returns-in-Ok-clause-formula : goal.returns-in-Ok-clause-formula
 returns-in-Ok-clause-formula c =
     let text = c.in_ok-text.ensures in
     let read = c.in-Ok.ensures.read in
-    formula_read c.args.bytes.now _ _ text.is_text text.text (read.0, read.1, read.2, read.3)
+    formula_read c.args.bytes.now _ _ read.0 text.is_text text.text read.1 read.2
 
 pub returns-in-Err-clause-none : goal.returns-in-Err-clause-none
 returns-in-Err-clause-none c =

@@ -1,11 +1,16 @@
-use Rattle.reqs_c_markers.proofs.Within.{marker_tree, no_marker, many_nodes}
+use Rattle.reqs_c_markers.proofs.Within.{tree_read, no_marker, nodes_refused}
 use Rattle.reqs_c_markers.proofs.marker_answers.read_marker.Goals as goal
 
 pub returns-in_err-formula-clause-none : goal.returns-in_err-formula-clause-none
-returns-in_err-formula-clause-none c = ?
+returns-in_err-formula-clause-none c =
+    no_marker c.args.input c.args.most c.args.bytes.now _ c.in_err-formula.ensures.none
 
 pub returns-clause-tree : goal.returns-clause-tree
-returns-clause-tree c = ?
+returns-clause-tree c =
+    tree_read c.tree_of-made.new.interner.nodes c.args.bytes.now _ _ c.tree_within.result c.in_ok-formula.ensures.formula
+    c.tree_within.ensures.same c.tree_of-made.ensures.made
 
 pub returns-clause-none : goal.returns-clause-none
-returns-clause-none c = ?
+returns-clause-none c =
+    nodes_refused c.args.input c.args.most c.args.bytes.now _ c.tree_within.result c.in_ok-formula.ensures.formula
+    c.tree_within.ensures.none
