@@ -40,12 +40,7 @@ pub extern "C" fn reqs_marker(
 
 /// The key of a marker: equal bytes exactly if two markers hold under the same valuations.
 #[unsafe(no_mangle)]
-pub extern "C" fn reqs_marker_key(
-    alloc: Global,
-    text: &[u8],
-    nodes: usize,
-    out: &mut [u8],
-) -> Reply
+pub extern "C" fn reqs_marker_key(alloc: Global, text: &[u8], nodes: usize, out: &mut [u8]) -> Reply
     ensures { RepliesAs (KeyEnds nodes text.now) out.old out.new result }
 {
     reqs_c_algebra::marker_key(alloc, text, nodes, out)
