@@ -1,9 +1,5 @@
-use Rattle.reqs_c_markers.proofs.Within.{tree_read, no_marker, nodes_refused}
+use Rattle.reqs_c_markers.proofs.Within.{tree_read, nodes_refused}
 use Rattle.reqs_c_markers.proofs.marker_answers.read_marker.Goals as goal
-
-pub returns-in_err-formula-clause-none : goal.returns-in_err-formula-clause-none
-returns-in_err-formula-clause-none c =
-    no_marker c.args.input c.args.most c.args.bytes.now _ c.in_err-formula.ensures.none
 
 pub returns-clause-tree : goal.returns-clause-tree
 returns-clause-tree c =
