@@ -34,7 +34,7 @@ pub(crate) fn cmp_trees(
 }
 
 /// Compares the ends of two trees' edges, by the edges' place.
-fn cmp_ends_at(
+pub(crate) fn cmp_ends_at(
     tree: MarkerTree,
     interner: &Interner,
     other: MarkerTree,

@@ -13,6 +13,7 @@
 
 ghost use Rattle.pep508_tree.specs.Meaning.{IsTree};
 
+use crate::order_walk::try_cmp_trees;
 use crate::tree_order::cmp_trees;
 use pep508_marker_display::MarkerTreeText;
 use pep508_tree::{Interner, MarkerTree};
@@ -47,7 +48,7 @@ impl<'a> MarkerTreeRef<'a> {
     ghost use Rattle.pep508_diagram.specs.Shortened.{HasShortVersions};
     ghost use Rattle.pep508_marker_text_laws.specs.MarkerText.{marker_text};
     ghost use Rattle.pep508_tree.specs.Meaning.{IsTree};
-    ghost use Rattle.pep508_tree_ref.specs.Lent.{tree_in};
+    ghost use Rattle.pep508_tree_ref.specs.Lent.{tree_in, tree_ref_cmp};
     ghost use Rattle.pep508_tree_ref.specs.TreeIn.{diagram_in};
 
     /// Returns a tree with its interner, and the allocator by which it is printed or compared. Takes no
@@ -70,6 +71,20 @@ impl<'a> MarkerTreeRef<'a> {
             option_map string_bytes text ≡ marker_text (diagram_in (tree_in self.now))) }
     {
         self.tree.try_to_string(self.alloc, self.interner)
+    }
+
+    /// Compares two trees as `cmp` does, with the way back to what is still to be compared in a list, by the
+    /// allocator of `new`. No recursion, however deep the trees are.
+    pub fn try_cmp(&self, other: &MarkerTreeRef) -> Result<Ordering, AllocError>
+        ensures { IfOk result (λ order. order ≡ tree_ref_cmp self.now other.now) }
+    {
+        try_cmp_trees(
+            self.alloc,
+            self.tree,
+            self.interner,
+            other.tree,
+            other.interner,
+        )
     }
 
     /// Shows that the tree has no needless question, and each version is in its shortest spelling. Does
@@ -117,13 +132,16 @@ impl Ord for MarkerTreeRef<'_> {
     ghost matches_eq = { λ x y. refl };
 
     fn cmp(&self, other: &Self) -> Ordering {
-        cmp_trees(
-            self.alloc,
-            self.tree,
-            self.interner,
-            other.tree,
-            other.interner,
-        )
+        match self.try_cmp(other) {
+            Ok(order) => order,
+            Err(_) => cmp_trees(
+                self.alloc,
+                self.tree,
+                self.interner,
+                other.tree,
+                other.interner,
+            ),
+        }
     }
 }
 
