@@ -1,6 +1,7 @@
 -- A walk over ends of paths, of which the clauses are counted.
 use Rattle.std.proofs.Common.{◌≡◌, ◌↔◌, ◌⊎◌, IsTrue, inl, inr, ℕ, suc, ◌+◌, ◌<◌, ◌≤◌, Bool, true, false, ◌||◌, List, [], ◌∷◌, ◌++◌}
 use Rattle.std.proofs.Common.{map, length, length-append, refl, sym, ap, ap₂, subst, ◌∙◌, true≢false, arith}
+use Rattle.std.proofs.Common.{append_assoc, Option, Some}
 use Rattle.std.proofs.lemmas.List.{length-map}
 use Rattle.std.proofs.lemmas.List.Elements.{filter-append}
 use Rattle.std.specs.List.{AllByRecursion, filter}
@@ -8,7 +9,8 @@ use Rattle.pep508_marker_text_laws.specs.Clauses.{clauses_of}
 use Rattle.pep508_marker_text_laws.specs.Saying.{Clause}
 use Rattle.pep508_marker_text_laws.specs.Simplified.{has_some}
 use Rattle.pep508_tree.specs.Tree.{Tree, always, never}
-use Rattle.pep508_tree.specs.Meaning.{NodeRecord, diagram_of, IsTree}
+use Rattle.pep508_diagram.specs.declared.variable.Flag.{Flag}
+use Rattle.pep508_tree.specs.Meaning.{NodeRecord, Flagged, diagram_of, IsTree}
 use Rattle.pep508_tree.specs.Nodes.{AreSound}
 use Rattle.pep508_tree.specs.Roots.{root_of}
 use Rattle.pep508_tree.proofs.Diagrams.{diagram_top}
@@ -47,6 +49,23 @@ number_behind false [] clauses = ap (λ cs. length (filter has_some cs)) (same_c
 number_behind false (term ∷ terms) [] = refl
 number_behind false (term ∷ terms) (clause ∷ clauses) =
     ap suc (number_behind false (term ∷ terms) clauses)
+
+or_true : (b : Bool) → b || true ≡ true
+or_true true = refl
+or_true false = refl
+
+-- both steps of a flag have terms
+pub flagged_ends : (some : Bool) (flag : Flag) (set unset : Tree) (root : Option NodeRecord)
+    (old first new : List End) → Some (Flagged flag set unset) ≡ root →
+    first ≡ old ++ record { tree = set; has_terms = true } ∷ [] →
+    new ≡ first ++ record { tree = unset; has_terms = true } ∷ [] → new ≡ old ++ ends_by some (root_steps root)
+flagged_ends some flag set unset root old first new is put other_put =
+    let low : End = record { tree = set; has_terms = true } in
+    let high : End = record { tree = unset; has_terms = true } in
+    other_put ∙ ap (λ es. es ++ high ∷ []) put ∙ append_assoc old (low ∷ []) (high ∷ [])
+    ∙ ap (λ (b : Bool). old ++ record { tree = set; has_terms = b } ∷ record { tree = unset; has_terms = b } ∷ [])
+    (sym (or_true some))
+    ∙ ap (λ r. old ++ ends_by some (root_steps r)) is
 
 always_or_not : (tree : Tree) → (tree ≡ always) ⊎ (tree ≡ always → ⊥)
 always_or_not tree = elim (top_or_node tree.place) [

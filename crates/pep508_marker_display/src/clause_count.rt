@@ -13,7 +13,7 @@ ghost use Rattle.pep508_marker_display.specs.Ends.{ends_by};
 ghost use Rattle.pep508_marker_display.specs.Steps.{root_steps, steps_shown};
 
 use crate::steps::{Step, root_steps};
-use pep508_tree::{Interner, MarkerTree};
+use pep508_tree::{Interner, MarkerTree, TreeNode};
 use std::alloc::{AllocError, Global};
 
 /// The tree to which a path leads, and whether the path has terms.
@@ -31,7 +31,7 @@ fn is_clause(tree: MarkerTree, has_terms: bool) -> bool
 }
 
 /// Adds the end of each path that goes on by one of these steps.
-fn add_ends(waiting: &mut Vec<End>, has_terms: bool, steps: &[Step]) -> Result<(), AllocError>
+fn push_ends(waiting: &mut Vec<End>, has_terms: bool, steps: &[Step]) -> Result<(), AllocError>
     ensures { OnOk result (waiting.new.items
         ≡ waiting.old.items ++ ends_by has_terms (steps_shown steps.now)) }
 {
@@ -42,6 +42,35 @@ fn add_ends(waiting: &mut Vec<End>, has_terms: bool, steps: &[Step]) -> Result<(
         })?;
     }
     Ok(())
+}
+
+/// Adds the end of each path that goes on from a tree by one step. No terms are made of a flag, of which
+/// there are most.
+#[tactic(auto, using(crate::proofs::Counting::flagged_ends))]
+fn add_ends(
+    alloc: Global,
+    waiting: &mut Vec<End>,
+    has_terms: bool,
+    tree: MarkerTree,
+    interner: &Interner,
+) -> Result<(), AllocError>
+    requires { IsTree interner.now.nodes tree }
+    ensures { OnOk result (waiting.new.items
+        ≡ waiting.old.items ++ ends_by has_terms (root_steps (root_of interner.now.nodes tree))) }
+{
+    if let TreeNode::Flagged(_, set, unset) = tree.node(interner) {
+        waiting.push(End {
+            tree: set,
+            has_terms: true,
+        })?;
+        waiting.push(End {
+            tree: unset,
+            has_terms: true,
+        })?;
+        return Ok(());
+    }
+    let steps = root_steps(alloc, tree, interner)?;
+    push_ends(waiting, has_terms, &steps)
 }
 
 /// Returns whether a tree has more than `most` clauses, as its text has them before they are simplified:
@@ -82,8 +111,7 @@ pub fn has_more_clauses(
             }
             found += 1;
         } else {
-            let steps = root_steps(alloc, at, interner)?;
-            add_ends(&mut waiting, has_terms, &steps)?;
+            add_ends(alloc, &mut waiting, has_terms, at, interner)?;
         }
     }
     Ok(false)

@@ -1,8 +1,8 @@
-use Rattle.std.proofs.Common.{◌≡◌, ◌∙◌, [], ◌∷◌, ◌++◌, inl, inr, ap, sym, true≢false}
+use Rattle.std.proofs.Common.{◌≡◌, ◌∙◌, [], ◌∷◌, ◌++◌, inl, inr, refl, sym, true≢false}
 use Rattle.pep508_tree.specs.Meaning.{diagram_of}
+use Rattle.pep508_tree.specs.Roots.{root_of}
 use Rattle.pep508_marker_display.specs.Counted.{clause_count}
-use Rattle.pep508_marker_display.specs.Ends.{ends_by}
-use Rattle.pep508_marker_display.specs.Steps.{steps_shown}
+use Rattle.pep508_marker_display.specs.Steps.{root_steps}
 use Rattle.pep508_marker_display.proofs.Counting.{none_more, end_made, less_found, one_too_many, count_found}
 use Rattle.pep508_marker_display.proofs.Counting.{less_on, count_on}
 use Rattle.pep508_marker_display.proofs.clause_count.has_more_clauses.Goals as goal
@@ -39,8 +39,8 @@ loop-end-preserved-then-is_clause c =
     c.pop.new.self.items c.in-Some.end c.loop-end.found c.loop-end.invariant c.in-Some.ensures.items is.0 is.1
     c.if-found-most.false
 
-pub root_steps-requires : goal.root_steps-requires
-root_steps-requires c =
+pub add_ends-requires : goal.add_ends-requires
+add_ends-requires c =
     let nodes = c.args.interner.now.nodes in
     end_made nodes (clause_count (diagram_of nodes c.args.tree)) c.args.most c.loop-end.waiting.items
     c.pop.new.self.items c.in-Some.end c.loop-end.found c.loop-end.invariant c.in-Some.ensures.items
@@ -50,18 +50,14 @@ loop-end-smaller c =
     let nodes = c.args.interner.now.nodes in
     less_on nodes (clause_count (diagram_of nodes c.args.tree)) c.args.most c.loop-end.waiting.items
     c.pop.new.self.items c.in-Some.end c.loop-end.found c.loop-end.invariant c.in-Some.ensures.items
-    c.are_sound.ensures (steps_shown c.in_ok-steps.steps.items) c.in_ok-steps.ensures c.add_ends.new.waiting.items
-    (c.in_ok-add_ends.ensures
-    ∙ ap (λ steps. c.pop.new.self.items ++ ends_by c.in-Some.end.has_terms (steps_shown steps))
-    c.deref.ensures.value)
+    c.are_sound.ensures (root_steps (root_of nodes c.in-Some.end.tree)) refl c.add_ends.new.waiting.items
+    c.in_ok-add_ends.ensures
 
 pub loop-end-preserved : goal.loop-end-preserved
 loop-end-preserved c =
     let nodes = c.args.interner.now.nodes in
     count_on nodes (clause_count (diagram_of nodes c.args.tree)) c.args.most c.loop-end.waiting.items
     c.pop.new.self.items c.in-Some.end c.loop-end.found c.loop-end.invariant c.in-Some.ensures.items
-    c.are_sound.ensures (steps_shown c.in_ok-steps.steps.items) c.in_ok-steps.ensures c.add_ends.new.waiting.items
-    (c.in_ok-add_ends.ensures
-    ∙ ap (λ steps. c.pop.new.self.items ++ ends_by c.in-Some.end.has_terms (steps_shown steps))
-    c.deref.ensures.value)
+    c.are_sound.ensures (root_steps (root_of nodes c.in-Some.end.tree)) refl c.add_ends.new.waiting.items
+    c.in_ok-add_ends.ensures
     (λ is. true≢false (sym (c.is_clause.ensures.1 is) ∙ c.if-is_clause.false))

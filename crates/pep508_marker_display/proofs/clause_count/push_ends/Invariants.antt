@@ -1,7 +1,7 @@
 use Rattle.std.proofs.Common.{◌≡◌, ◌++◌, take}
 use Rattle.pep508_marker_display.specs.Ends.{ends_by}
 use Rattle.pep508_marker_display.specs.Steps.{steps_shown}
-use Rattle.pep508_marker_display.proofs.clause_count.add_ends.Given as goal
+use Rattle.pep508_marker_display.proofs.clause_count.push_ends.Given as goal
 
 abbrev pub invariant-loop-step : goal.invariant-loop-step
 invariant-loop-step l =
