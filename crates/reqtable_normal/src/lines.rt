@@ -66,9 +66,9 @@ pub fn normal(
 ///
 /// # Errors
 ///
-/// The error of the first line that can't be printed: `NormalError::Line` if it has no normal text, as `normal`
-/// says, and otherwise `NormalError::TooManyClauses` if its marker has more clauses. `NormalError::Memory` when
-/// memory runs out.
+/// The error of the first line that can't be printed: `NormalError::Line` if it has no normal text, as
+/// `normal` says, and otherwise `NormalError::TooManyClauses` if its marker has more clauses.
+/// `NormalError::Memory` when memory runs out.
 pub fn normal_within(
     alloc: Global,
     requirements: &Requirements,
