@@ -216,10 +216,10 @@ def large():
 
 
 def pairs(number):
-    """The processor seconds for one reading of a marker of so many pairs of extras."""
+    """The processor seconds for the decision tree of a marker of so many pairs of extras."""
     text = " or ".join(f"extra == 'a{it}' and extra == 'b{it}'" for it in range(number))
     began = time.process_time()
-    fowlyore.Marker(text)
+    fowlyore.Marker(text).is_true()
     took = time.process_time() - began
     print(f"a marker of {number} pairs of extras: {took:.3f} s")
     FOUND[f"python_package.pairs.{number}"] = took, "s", OURS
@@ -231,6 +231,7 @@ if __name__ == "__main__":
     of_markers()
     large()
     over_installed()
+    fowlyore.bounds.nodes = None
     for number in PAIRS:
         pairs(number)
     if WORDS.write:

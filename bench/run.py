@@ -43,8 +43,8 @@ def timed(command, out):
     return wall * 1e3, (usage.ru_utime + usage.ru_stime) * 1e3
 
 
-def peak(command):
-    """Runs the command and returns the most memory that it held, in KiB.
+def peak(command, ends=0):
+    """Runs the command, which ends with a status, and returns the most memory that it held, in KiB.
 
     The system counts for a process also what its parent held when it was started. So a small shell
     starts the command and ends; the command's process then becomes a child of this one. It waits for
@@ -61,7 +61,7 @@ def peak(command):
             sys.exit(f"run.py: the shell: status {shell.returncode}")
         shell.stdin.write(b"\n")
     _, status, usage = os.wait4(process, 0)
-    if status:
+    if os.waitstatus_to_exitcode(status) != ends:
         sys.exit(f"{' '.join(command)}: status {os.waitstatus_to_exitcode(status)}")
     return usage.ru_maxrss
 

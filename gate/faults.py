@@ -124,8 +124,10 @@ FAULTS = [
     Fault("a lent call that is passed on", None, LENT,
           "crates/pep508_rs/src/lib.rt", "{Interner, MarkerTree}", "{Interner, MarkerTree, uncounted_conjunction}"),
     Fault("a matrix that keeps a copy of its requirements", None, LENT,
-          "crates/reqs_answers/src/matrices.rt", "let mut table = table_of(alloc, requirements, interner, limit)?;",
-          "let copy = copied_packages(alloc, &requirements, &[])?; let mut table = table_of(alloc, copy, interner, limit)?;"),
+          "crates/reqs_answers/src/matrices.rt",
+          "let mut table = table_of(alloc, requirements, interner, request.limit, request.bounds)?;",
+          "let copy = copied_packages(alloc, &requirements, &[])?; "
+          "let mut table = table_of(alloc, copy, interner, request.limit, request.bounds)?;"),
     Fault("a table that keeps its lines twice", None, LENT, "crates/reqtable_table/src/table.rt",
           "pub(crate) lines: Vec<TableLine>,", "pub(crate) lines: Vec<TableLine>, pub(crate) given: Vec<Given>,"),
     Fault("a list of files that lacks one", None, FILES, "docs/FILES.md", "- `gate/floors.py`: ", "- `gate/floor.py`: "),

@@ -34,7 +34,7 @@ KEPT = {
     "reqtable_table": {
         "Table": "packages: Vec<Package>, slots: usize",
         "Package": "name: PackageName, cases: Vec<Case>, lines: Vec<TableLine>",
-        "Case": "lines: Vec<usize>, tree: MarkerTree, range: Option<Ranges<Version>>, pre: bool",
+        "Case": "lines: Vec<usize>, tree: MarkerTree, pre: bool",
         "TableLine": "number: usize, extras: Vec<ExtraName>, marker: MarkerTree, slot: usize, is_url: bool, "
                      "is_bounded: bool, specifiers: CountedSpecifiers",
     },

@@ -41,7 +41,7 @@ extern "C" {
 #endif
 
 /* The version number of this interface, which changes with it. */
-#define REQS_ABI 3u
+#define REQS_ABI 4u
 
 enum reqs_status {
     REQS_ANSWERED = 0,
@@ -61,6 +61,9 @@ typedef struct reqs_reply {
     size_t len;      /* the number of bytes at fault; 0 if it is unknown */
 } reqs_reply;
 
+/* No bound on what a call makes: a number of nodes, clauses or cases that none has. */
+#define REQS_NO_BOUND SIZE_MAX
+
 /* What reqs_version_key returns in addition to a length. */
 #define REQS_KEY_REFUSED (-2)
 #define REQS_KEY_MEMORY (-3)
@@ -71,7 +74,17 @@ uint32_t reqs_abi(void);
 /* ---- lists, as of the command reqs: at most 16,777,216 bytes each. Extras are one per line; empty lines are
  * skipped. An environment is a JSON object with the eleven variables of PEP 508 as strings, and environments
  * are a JSON list of such objects. `limit` is the number of cases that a package may have; the command's
- * default is 4096. */
+ * default is 4096.
+ *
+ * Bounds. A call with `nodes` makes decision trees of its lists' markers, which may have exponentially more nodes
+ * than the markers have comparisons: where all together have more than `nodes`, it is refused at the line after
+ * whose tree there are more ("requirements: line 3: more than 1000000 nodes"), or with input 0 if it made more of
+ * the trees of all lines. A call with `clauses` writes markers as clauses with `or` between them, of which each
+ * marker may have exponentially many: with more than `clauses` it is refused at the marker's line ("requirements:
+ * line 3: more than 100000 clauses"), in reqs_same with input 0 ("more than 100000 clauses for foo"). A call with
+ * `cases` makes the cases of each package, at most `limit`: where all have more than `cases` together, it is
+ * refused ("requirements: more than 5000 cases in all"). REQS_NO_BOUND is no bound. A list that can't be read is
+ * refused for that before it is for a bound. */
 
 /* What `reqs check` writes: for each required package, the highest candidate that is accepted. */
 reqs_reply reqs_check(const uint8_t *requirements, size_t requirements_len,
@@ -85,23 +98,24 @@ reqs_reply reqs_matrix(const uint8_t *requirements, size_t requirements_len,
                        const uint8_t *environments, size_t environments_len,
                        const uint8_t *candidates, size_t candidates_len,
                        const uint8_t *extras, size_t extras_len,
-                       uint64_t limit, uint8_t *out, size_t out_len);
+                       uint64_t limit, size_t nodes, uint64_t cases, uint8_t *out, size_t out_len);
 
 /* REQS_ANSWERED and "yes\n" if two lists require the same; otherwise REQS_DIFFERENT and what `reqs same`
  * writes. */
 reqs_reply reqs_same(const uint8_t *left, size_t left_len,
                      const uint8_t *right, size_t right_len,
-                     uint64_t limit, uint8_t *out, size_t out_len);
+                     uint64_t limit, size_t nodes, size_t clauses, uint64_t cases,
+                     uint8_t *out, size_t out_len);
 
 /* What `reqs conflicts` writes: a line for each case in which lines contradict each other; nothing if there
  * are none. No version without a local part that is no post-release is accepted by all lines of such a case;
  * others may be, as 2.0+cu118 by torch==2.0+cu118 and torch<=2.0. */
 reqs_reply reqs_conflicts(const uint8_t *requirements, size_t requirements_len,
-                          uint64_t limit, uint8_t *out, size_t out_len);
+                          uint64_t limit, size_t nodes, uint64_t cases, uint8_t *out, size_t out_len);
 
 /* What `reqs normal` writes: the list in its normal form. */
 reqs_reply reqs_normal(const uint8_t *requirements, size_t requirements_len,
-                       uint8_t *out, size_t out_len);
+                       size_t nodes, size_t clauses, uint8_t *out, size_t out_len);
 
 /* ---- the same as JSON. The text of an answer is the object that the command prints with `--format json`, on
  * one line that ends in a line feed (COMMANDS.md). A refusal is that of the call without _json: its place is
@@ -119,21 +133,22 @@ reqs_reply reqs_matrix_json(const uint8_t *requirements, size_t requirements_len
                             const uint8_t *environments, size_t environments_len,
                             const uint8_t *candidates, size_t candidates_len,
                             const uint8_t *extras, size_t extras_len,
-                            uint64_t limit, uint8_t *out, size_t out_len);
+                            uint64_t limit, size_t nodes, uint64_t cases, uint8_t *out, size_t out_len);
 
 /* REQS_ANSWERED and {"same":true}; otherwise REQS_DIFFERENT and {"marker":..,"package":..,"same":false}, in
  * which the marker is null if the difference is in all environments. */
 reqs_reply reqs_same_json(const uint8_t *left, size_t left_len,
                           const uint8_t *right, size_t right_len,
-                          uint64_t limit, uint8_t *out, size_t out_len);
+                          uint64_t limit, size_t nodes, size_t clauses, uint64_t cases,
+                          uint8_t *out, size_t out_len);
 
 /* {"conflicts":[..]}: each case in which lines contradict each other, with their numbers. */
 reqs_reply reqs_conflicts_json(const uint8_t *requirements, size_t requirements_len,
-                               uint64_t limit, uint8_t *out, size_t out_len);
+                               uint64_t limit, size_t nodes, uint64_t cases, uint8_t *out, size_t out_len);
 
 /* {"requirements":[..]}: the lines of the list in its normal form. */
 reqs_reply reqs_normal_json(const uint8_t *requirements, size_t requirements_len,
-                            uint8_t *out, size_t out_len);
+                            size_t nodes, size_t clauses, uint8_t *out, size_t out_len);
 
 /* ---- versions and specifiers (PEP 440) */
 
@@ -193,7 +208,17 @@ reqs_reply reqs_requirement(const uint8_t *text, size_t text_len, uint8_t *out, 
 
 /* ---- markers (PEP 508, "Environment Markers"). A text that is not a marker is refused at the part that
  * can't be read. A condition is a value of each key that markers test, all of which are independent of each
- * other, and any extras; so some conditions are met by no environment (docs/C.md). */
+ * other, and any extras; so some conditions are met by no environment (docs/C.md).
+ *
+ * A call with `nodes` makes decision trees of its markers, which may have exponentially more nodes than the
+ * markers have comparisons: where it makes more than `nodes` nodes, it is refused with the number of the
+ * marker's text as input, and start and len 0 ("more than 1000000 nodes"). A call with `clauses` writes a
+ * marker as clauses with `or` between them, one for each path of its tree before they are simplified; with more
+ * than `clauses` it is refused with input 1, and start and len 0 ("more than 100000 clauses"). REQS_NO_BOUND is
+ * no bound. docs/C.md documents what each call costs. */
+
+/* Answered with an empty text if the text is a marker. Makes no tree: linear in the text. */
+reqs_reply reqs_marker_check(const uint8_t *text, size_t text_len, uint8_t *out, size_t out_len);
 
 /* The normal text of a marker: markers with the same meaning have the same, and it is read as a marker with
  * that meaning; empty if the marker always holds. It can be exponentially longer than the marker. Refused
@@ -201,28 +226,30 @@ reqs_reply reqs_requirement(const uint8_t *text, size_t text_len, uint8_t *out, 
  * single quote ("no normal text: single quote"), it depends on a key with a deprecated name ("no normal text:
  * deprecated key"), it has a version that is more than release numbers of epoch 0 ("no normal text: version
  * bound"), or it never holds ("no normal text: never holds"). */
-reqs_reply reqs_marker(const uint8_t *text, size_t text_len, uint8_t *out, size_t out_len);
+reqs_reply reqs_marker(const uint8_t *text, size_t text_len, size_t nodes, size_t clauses,
+                       uint8_t *out, size_t out_len);
 
 /* The key of a marker: bytes that are equal exactly if two markers hold under the same conditions. Their
  * order by memcmp is one of markers that means nothing more. A key is about as long as the marker, and
  * exponentially longer at worst; docs/C.md documents what each call costs. */
-reqs_reply reqs_marker_key(const uint8_t *text, size_t text_len, uint8_t *out, size_t out_len);
+reqs_reply reqs_marker_key(const uint8_t *text, size_t text_len, size_t nodes, uint8_t *out, size_t out_len);
 
 /* One byte: '1' if the marker holds under each condition, '0' if under none, otherwise '-'. */
-reqs_reply reqs_marker_truth(const uint8_t *text, size_t text_len, uint8_t *out, size_t out_len);
+reqs_reply reqs_marker_truth(const uint8_t *text, size_t text_len, size_t nodes, uint8_t *out, size_t out_len);
 
 /* One byte: '1' if both markers hold together under no condition, so in no environment, otherwise '0'. */
 reqs_reply reqs_markers_disjoint(const uint8_t *left, size_t left_len,
                                  const uint8_t *right, size_t right_len,
-                                 uint8_t *out, size_t out_len);
+                                 size_t nodes, uint8_t *out, size_t out_len);
 
 /* One byte: '1' if the right marker holds under each condition under which the left does, otherwise '0'. */
 reqs_reply reqs_marker_implies(const uint8_t *left, size_t left_len,
                                const uint8_t *right, size_t right_len,
-                               uint8_t *out, size_t out_len);
+                               size_t nodes, uint8_t *out, size_t out_len);
 
 /* The normal text of a marker's negation, which holds where the marker doesn't; refused as by reqs_marker. */
-reqs_reply reqs_marker_negated(const uint8_t *text, size_t text_len, uint8_t *out, size_t out_len);
+reqs_reply reqs_marker_negated(const uint8_t *text, size_t text_len, size_t nodes, size_t clauses,
+                               uint8_t *out, size_t out_len);
 
 /* The normal text of a marker that holds as this one does in environments whose python_full_version is at
  * least `lower` and below `upper`, each a version, or empty for no bound; it tests that version no more than
@@ -230,14 +257,14 @@ reqs_reply reqs_marker_negated(const uint8_t *text, size_t text_len, uint8_t *ou
 reqs_reply reqs_marker_simplify_python(const uint8_t *text, size_t text_len,
                                        const uint8_t *lower, size_t lower_len,
                                        const uint8_t *upper, size_t upper_len,
-                                       uint8_t *out, size_t out_len);
+                                       size_t nodes, size_t clauses, uint8_t *out, size_t out_len);
 
 /* The normal text of a marker under the assumption that these extras, one per line, are present, so that it
  * doesn't test them; empty lines are skipped. Refused as by reqs_marker; input is 2 if an extra is not a
  * name. */
 reqs_reply reqs_marker_simplify_extras(const uint8_t *text, size_t text_len,
                                        const uint8_t *extras, size_t extras_len,
-                                       uint8_t *out, size_t out_len);
+                                       size_t nodes, size_t clauses, uint8_t *out, size_t out_len);
 
 /* A byte for each line of `markers`: '1' if the marker holds in the environment with the extras, one per
  * line, '0' if it doesn't, '?' if the line is not a marker. */

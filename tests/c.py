@@ -19,14 +19,15 @@ import struct
 import subprocess
 import sys
 import tempfile
+import time
 from concurrent.futures import ThreadPoolExecutor
 
 import fuzz
 import objects
-from calls import request
+from calls import NO_BOUND, request
 
 TOP = os.path.dirname(os.path.dirname(os.path.abspath(__file__)))
-INTERFACE = 3
+INTERFACE = 4
 ROOM = 1 << 20
 LIMIT = 4096
 ANSWERED, DIFFERENT, REFUSED, MEMORY = range(4)
@@ -76,7 +77,8 @@ class Reply:
 
 
 def made(program, calls):
-    """What a program replies to calls, each a name, its texts, and where they aren't the usual ones a limit and a room."""
+    """What a program replies to calls, each a name, its texts, and where they aren't the usual ones a limit, a room, and how many
+    nodes, clauses and cases in all it may make."""
     asked = [request(name, texts, *(more or (LIMIT, ROOM))) for name, texts, *more in calls]
     ran = subprocess.run([program], input=b"".join(asked), capture_output=True, env=AT_ONCE)
     if ran.returncode:
@@ -125,6 +127,7 @@ def of_examples():
 
 NAMES = {"check": ("requirements", "environment", "candidates"), "matrix": ("requirements", "environments", "candidates"),
          "same": ("left", "right"), "conflicts": ("requirements",), "normal": ("requirements",)}
+BOUNDS = "nodes", "clauses", "cases"
 PATHS = {"R": 0, "E": 1, "C": 2, "LEFT": 0, "RIGHT": 1, "REQS": 0}
 
 
@@ -135,7 +138,8 @@ def of_runs():
     for kind in ("runs", "worked", "matrix", "lists"):
         for run in told[kind]:
             call, texts = call_of(kind, run, told["environment"])
-            yield run, (call, [as_bytes(it) for it in texts], run.get("limit", LIMIT), ROOM)
+            most = [run.get(it, NO_BOUND) for it in BOUNDS]
+            yield run, (call, [as_bytes(it) for it in texts], run.get("limit", LIMIT), ROOM, *most)
 
 
 def call_of(kind, run, environment):
@@ -229,6 +233,7 @@ REFUSALS = [
     ("requirement", "", None), ("requirement", "name[", None), ("requirement", "name @ ", None), ("requirement", "n <", None),
     ("requirement", "name; python_version", None), ("requirement", "-a", (0, 1)),
     ("marker", "os_name", None), ("marker", "(os_name == 'a'", None), ("marker", "os_name == 'a' nor", None), ("marker", "", None),
+    ("checked", "os_name == 'a' nor", None), ("checked", "", None),
 ]
 # What is refused of several texts: the number of the one at fault, its place, and what is said where that is of this library alone.
 FAULTS = [
@@ -247,8 +252,31 @@ FAULTS = [
     ("subset", [">=1", ">1," + AT_END], (2, 0, 0, 0), "a version number can't be raised"),
     ("empty", [AT_END], (1, 0, 0, 0), "a version number can't be raised"), ("empty", ["1"], (1, 0, 0, 1), None),
 ]
+# Calls that make trees, with texts of which they make some, and whether they write a marker.
+SOME = "os_name == 'a' and extra == 'x' or os_name == 'b' and extra == 'y'"
+BOUNDED = [
+    ("marker", [SOME], True), ("negated", [SOME], True), ("python", [SOME, "3.8", ""], True), ("extras", [SOME, "z\n"], True),
+    ("marker key", [SOME], False), ("truth", [SOME], False), ("disjoint", [SOME, "os_name == 'c' and extra == 'z'"], False),
+    ("implies", ["os_name == 'c' and extra == 'z'", SOME], False),
+]
+# Calls on lists that are bounded, the bounds that each has, and what it has to answer without one.
+LINES = f"b\na>=2 ; {SOME}\na<1 ; sys_platform == 'z'\n"
+OTHERS = f"b\na>=2 ; ({SOME}) and sys_platform != 'z'\n"
+BOUNDED_LISTS = [
+    (f"{call}{form}", texts, kinds, status)
+    for call, texts, kinds, status in (
+        ("matrix", [LINES, "[]", "", ""], ("nodes", "cases"), 0), ("same", [LINES, OTHERS], ("nodes", "clauses", "cases"), 1),
+        ("conflicts", [LINES], ("nodes", "cases"), 0), ("normal", [LINES], ("nodes", "clauses"), 0))
+    for form in ("", " json")
+]
+# The bounds by which the other faces call, and markers that are beyond them: with 2^30 nodes and more, and with 2^30 clauses.
+USUAL = 1_000_000, 100_000
+NODES_GROW = " or ".join(f"extra == 'a{it}' and extra == 'b{it}'" for it in range(10, 40))
+CLAUSES_GROW = " and ".join(f"(extra == 'x{it}a' or extra == 'x{it}b')" for it in range(10, 40))
+# How long a call may take that is refused for one.
+SECONDS = 20
 # Calls whose texts are all of one kind, and a text that none of them reads, with how many they have.
-UNREAD = [("truth", 1), ("marker key", 1), ("negated", 1), ("disjoint", 2), ("implies", 2), ("python", 3), ("extras", 2),
+UNREAD = [("checked", 1), ("truth", 1), ("marker key", 1), ("negated", 1), ("disjoint", 2), ("implies", 2), ("python", 3), ("extras", 2),
           ("ranges disjoint", 2), ("subset", 2)]
 # How versions stand to each other, from PEP 440's "Summary of permitted suffixes and relative ordering".
 RISING = ["1.dev0", "1.0.dev456", "1.0a1", "1.0a2.dev456", "1.0a12.dev456", "1.0a12", "1.0b1.dev456", "1.0b2", "1.0b2.post345.dev456",
@@ -304,7 +332,7 @@ def answers(program):
         reply = made(program, [(call, [text.encode()])])[0]
         is_place = reply.place() == (1, 0, *place) if place else reply.input == 1 and reply.start + reply.len <= len(text) + 1
         wants(f"{call} of {text!r} is refused", reply.status == REFUSED and is_place and reply.length > 0, reply)
-    for call in ("version", "specifiers", "requirement", "marker", "marker key", "truth", "negated", "empty"):
+    for call in ("version", "specifiers", "requirement", "checked", "marker", "marker key", "truth", "negated", "empty"):
         reply = made(program, [(call, [b"ab\xffc"])])[0]
         wants(f"{call} of bytes that are no text", (reply.status, reply.place(), reply.text())
               == (REFUSED, (1, 0, 2, 0), b"not UTF-8 at byte 2"), reply)
@@ -325,6 +353,71 @@ def meanings(program):
         first, *last = made(program, [(call, [*[usual] * at, *[b"\xff"] * (texts - at)]) for at in (0, 1)[:texts]])
         wants(f"{call}: the first of several texts is refused", (first.status, first.place()) == (REFUSED, (1, 0, 0, 0)), first)
         wants(f"{call}: the second is refused", all((it.status, it.place()) == (REFUSED, (2, 0, 0, 0)) for it in last), last)
+
+
+def checked(program):
+    """Texts that are markers, whatever their trees are."""
+    for text in (SOME, "os_name == \"a'\"", "os_name == 'a' and os_name == 'b'", "'a' == 'b'", NODES_GROW, CLAUSES_GROW):
+        reply = made(program, [("checked", [text.encode()])])[0]
+        wants(f"{text[:60]!r} is a marker", (reply.status, reply.length, reply.place()) == (ANSWERED, 0, (0, 0, 0, 0)), reply)
+
+
+def bounds(program):
+    """A bound that is exactly reached answers, and each smaller one is refused, by its number."""
+    for call, texts, writes in BOUNDED:
+        texts = [it.encode() for it in texts]
+        whole = made(program, [(call, texts)])[0]
+        for what, at in (("nodes", 0), ("clauses", 1))[: 1 + writes]:
+            numbers = [[it, NO_BOUND] if at == 0 else [NO_BOUND, it] for it in range(24)]
+            replies = made(program, [(call, texts, LIMIT, 64 + whole.length, *it) for it in numbers])
+            first = next((number for number, it in enumerate(replies) if it.status == ANSWERED), 0)
+            answers = all((it.status, it.text()) == (ANSWERED, whole.text()) for it in replies[first:])
+            wants(f"{call} answers from a number of {what} on", 0 < first < 24 and answers, replies[first])
+            refused = all((it.status, it.place()[1:], it.text().decode()) == (REFUSED, (0, 0, 0), f"more than {number} {what}")
+                          and 1 <= it.input <= (2 if call in ("disjoint", "implies") else 1) for number, it in enumerate(replies[:first]))
+            wants(f"{call} is refused with fewer {what}", refused, replies[:first])
+    always, some = b"'x' == 'y'", SOME.encode()
+    for texts, number in (([some, always], 1), ([always, some], 2)):
+        reply = made(program, [("implies", texts, LIMIT, ROOM, 0)])[0]
+        wants(f"the marker with too many nodes is the one of number {number}", (reply.status, reply.place()) == (REFUSED, (number, 0, 0, 0)))
+    reply = made(program, [("marker", [b"os_name =="], LIMIT, ROOM, 0, 0)])[0]
+    wants("a text at fault is told before a bound", reply.status == REFUSED and not reply.text().startswith(b"more than"), reply)
+    reply = made(program, [("marker", [b"os_name == \"a'\""], LIMIT, ROOM, NO_BOUND, 0)])[0]
+    wants("a marker without a normal text is told before its clauses", reply.text() == b"no normal text: single quote", reply)
+
+
+def list_bounds(program):
+    """A bound on a list that is exactly reached answers, and each smaller one is refused, by its number."""
+    for call, texts, kinds, status in BOUNDED_LISTS:
+        texts = [it.encode() for it in texts]
+        whole = made(program, [(call, texts)])[0]
+        wants(f"{call} answers without bounds", whole.status == status, whole)
+        for what in kinds:
+            numbers = [[it if kind == what else NO_BOUND for kind in ("nodes", "clauses", "cases")] for it in range(64)]
+            replies = made(program, [(call, texts, LIMIT, 64 + whole.length, *it) for it in numbers])
+            first = next((number for number, it in enumerate(replies) if it.status == status), 0)
+            answers = all((it.status, it.text()) == (status, whole.text()) for it in replies[first:])
+            wants(f"{call} answers from a number of {what} on", 0 < first < 64 and answers, replies[first])
+            refused = all(it.status == REFUSED and f"more than {number} {what}" in it.text().decode() and it.place()[2:] == (0, 0)
+                          for number, it in enumerate(replies[:first]))
+            wants(f"{call} is refused with fewer {what}", refused, replies[:first])
+    for call, texts, most, place in (
+            ("same", ["b", LINES], [0], (2, 2, 0, 0)), ("normal", [LINES], [NO_BOUND, 0], (1, 2, 0, 0)),
+            ("same", [LINES, OTHERS], [NO_BOUND, 0], (0, 0, 0, 0)), ("conflicts", [LINES], [NO_BOUND, NO_BOUND, 0], (1, 0, 0, 0))):
+        reply = made(program, [(call, [it.encode() for it in texts], LIMIT, ROOM, *most)])[0]
+        wants(f"{call} beyond a bound has the place {place}", (reply.status, reply.place()) == (REFUSED, place), reply)
+
+
+def hostile(program):
+    """Short texts that would take all memory and time are refused soon."""
+    for call, texts, writes in BOUNDED:
+        grown = [(NODES_GROW, b"more than 1000000 nodes")] + [(CLAUSES_GROW, b"more than 100000 clauses")] * (writes and call != "negated")
+        for text, wanted in grown:
+            began = time.monotonic()
+            reply = made(program, [(call, [text.encode() if it == SOME else it.encode() for it in texts], LIMIT, ROOM, *USUAL)])[0]
+            took = time.monotonic() - began
+            wants(f"{call} with {wanted.decode()}", (reply.status, reply.text()) == (REFUSED, wanted) and reply.grown == 0, reply)
+            wants(f"{call} with {wanted.decode()} within {SECONDS} s", took < SECONDS, took)
 
 
 def marker_keys(program):
@@ -419,6 +512,7 @@ def kinds():
         ("specifiers", [b">=1.0,<2,!=1.5.*"]), ("specifiers", [b">=1.0,2"]), ("take", [b">=1.0,===1.5", b"1.5\n2\nx\n"]),
         ("requirement", [b"a[b,c] >= 1; os_name == 'nt' or extra == 'e'"]),
         ("requirement", [b"a @ file:///b ; os_name =="]), ("marker", [b"os_name == 'nt' or python_version < '3.8'"]),
+        ("checked", [b"os_name == 'nt' or extra == 'e'"]), ("checked", [b"os_name =="]),
         ("marker", [b"os_name =="]), ("marker", [b"os_name == 'a' and os_name == 'b'"]),
         ("marker key", [b"os_name == 'nt' or extra == 'e'"]),
         ("truth", [b"os_name == 'nt'"]), ("truth", [b"os_name"]), ("disjoint", [b"os_name == 'a' or extra == 'e'", b"os_name == 'b'"]),
@@ -545,6 +639,10 @@ def main(words):
     for program in (shared, static):
         answers(program)
         meanings(program)
+        checked(program)
+        bounds(program)
+        list_bounds(program)
+    hostile(shared)
     orders(shared)
     marker_keys(shared)
     batches(shared)

@@ -3,11 +3,16 @@
 import struct
 
 CALLS = ("check", "matrix", "same", "conflicts", "normal", "check json", "matrix json", "same json", "conflicts json", "normal json",
-         "version", "key", "order", "specifiers", "take", "ranges disjoint", "subset", "empty", "requirement", "marker", "marker key",
-         "truth", "disjoint", "implies", "negated", "python", "extras", "hold", "abi")
+         "version", "key", "order", "specifiers", "take", "ranges disjoint", "subset", "empty", "requirement", "checked", "marker",
+         "marker key", "truth", "disjoint", "implies", "negated", "python", "extras", "hold", "abi")
 
 
-def request(name, texts, limit, room):
-    """The bytes of a request: a call with its texts, the limit of its cases and the room for its answer."""
-    head = struct.pack("<4Q", CALLS.index(name), limit, room, len(texts))
+# What bounds no number of nodes, clauses or cases.
+NO_BOUND = 2 ** 64 - 1
+
+
+def request(name, texts, limit, room, nodes=NO_BOUND, clauses=NO_BOUND, cases=NO_BOUND):
+    """The bytes of a request: a call with its texts, how many cases of a package, nodes, clauses and cases in all it may make, and the
+    room for its answer."""
+    head = struct.pack("<7Q", CALLS.index(name), limit, nodes, clauses, cases, room, len(texts))
     return head + struct.pack(f"<{len(texts)}Q", *map(len, texts)) + b"".join(texts)

@@ -789,6 +789,22 @@ run check R E C --limit 1
 wants "a limit for check" 2 "" SOMETHING
 run normal R --limit 1
 wants "a limit for normal" 2 "" SOMETHING
+for bound in 18446744073709551616 x '' -1; do
+    run matrix R M C --cases "$bound"
+    wants "at most '$bound' cases" 2 "" SOMETHING
+    run normal R --nodes "$bound" --clauses 1
+    wants "at most '$bound' nodes" 2 "" SOMETHING
+done
+run matrix R M C --cases 0
+wants "no cases in all" 2 "" "reqs: R: more than 0 cases in all$n"
+run check R E C --nodes 1
+wants "a bound on nodes for check" 2 "" SOMETHING
+run conflicts R --clauses 1
+wants "a bound on clauses for conflicts" 2 "" SOMETHING
+run normal R --cases 1
+wants "a bound on all cases for normal" 2 "" SOMETHING
+run normal R --nodes 1 --nodes 2
+wants "two bounds on nodes" 2 "" SOMETHING
 run same R
 wants "same with one list" 2 "" SOMETHING
 run same R R C

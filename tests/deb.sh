@@ -21,8 +21,8 @@ of_program=(
     usr/share/zsh/vendor-completions/_reqs
 )
 of_shared=(
-    $libraries/libreqs.so.3
-    usr/share/doc/libreqs3/copyright
+    $libraries/libreqs.so.4
+    usr/share/doc/libreqs4/copyright
 )
 of_development=(
     $libraries/libreqs.a
@@ -41,7 +41,7 @@ deb() {
 
 makes() {
     "$top/pack" deb "$made" >"$work/said" && version=$(dpkg-deb -f "$(head -n 1 "$work/said")" Version) || return
-    { deb reqs && deb libreqs3 && deb libreqs-dev; } | cmp - "$work/said" && [ "$(find "$made" -type f | wc -l)" -eq 3 ]
+    { deb reqs && deb libreqs4 && deb libreqs-dev; } | cmp - "$work/said" && [ "$(find "$made" -type f | wc -l)" -eq 3 ]
 }
 
 makes_the_same() {
@@ -83,7 +83,7 @@ installs_alone() {
 
 installs_with_the_library() {
     make_root "$work/compiles" && ! installs "$work/compiles" libreqs-dev >/dev/null &&
-        grep -qF "libreqs-dev depends on libreqs3 (= $version)" "$work/said" && installs "$work/compiles" libreqs3 libreqs-dev
+        grep -qF "libreqs-dev depends on libreqs4 (= $version)" "$work/said" && installs "$work/compiles" libreqs4 libreqs-dev
 }
 
 # has_files ROOT FILE..: these and no others.
@@ -106,7 +106,7 @@ make_older() {
 }
 
 takes_over() {
-    make_older && make_root "$work/all" && dpkg_in "$work/all" -i "$work/older.deb" && installs "$work/all" libreqs3 libreqs-dev &&
+    make_older && make_root "$work/all" && dpkg_in "$work/all" -i "$work/older.deb" && installs "$work/all" libreqs4 libreqs-dev &&
         installs "$work/all" reqs && has_files "$work/all" "${of_program[@]}" "${of_shared[@]}" "${of_development[@]}"
 }
 
@@ -119,7 +119,7 @@ has_what_is_told() {
     for path in "${of_program[@]}" "${of_shared[@]}" "${of_development[@]}"; do
         grep -qF "/$path\`" "$page" || { echo "docs/C.md doesn't tell of /$path"; return 1; }
     done
-    for path in reqs libreqs3 libreqs-dev; do
+    for path in reqs libreqs4 libreqs-dev; do
         grep -qF " ./dist/${path}_*.deb" "$page" || { echo "docs/C.md doesn't tell how to install $path"; return 1; }
     done
 }
@@ -138,16 +138,16 @@ needs_libc() {
 
 # told FILE WORDS: what the shared library's package tells to others that have to do with it.
 told() {
-    [ "$(dpkg-deb -I "$(deb libreqs3)" "$1")" = "$2" ]
+    [ "$(dpkg-deb -I "$(deb libreqs4)" "$1")" = "$2" ]
 }
 
 # The functions of the header are those that the library exports and that the package tells of.
 tells_names() {
     local names=$work/names
     grep -oE '^\w+ reqs_\w+\(' "$work/compiles/usr/include/reqs.h" | sed 's/.* //; s/($//' | sort >"$names"
-    [ -s "$names" ] && nm -D --defined-only "$work/runs/$libraries/libreqs.so.3" | cut -d' ' -f3 | sort | cmp - "$names" &&
-        { echo "libreqs.so.3 libreqs3 #MINVER#" && sed "s/.*/ &@Base $version/" "$names"; } |
-            cmp - <(dpkg-deb -I "$(deb libreqs3)" symbols)
+    [ -s "$names" ] && nm -D --defined-only "$work/runs/$libraries/libreqs.so.4" | cut -d' ' -f3 | sort | cmp - "$names" &&
+        { echo "libreqs.so.4 libreqs4 #MINVER#" && sed "s/.*/ &@Base $version/" "$names"; } |
+            cmp - <(dpkg-deb -I "$(deb libreqs4)" symbols)
 }
 
 has_the_librarys_name() {
@@ -205,7 +205,7 @@ holds "./pack deb makes three packages, and prints their paths" makes
 [ "$failed" -eq 0 ] || finish deb
 holds "the same sources make the same packages" makes_the_same
 holds "dpkg installs the program alone" installs_alone "$work/program" reqs
-holds "dpkg installs the shared library alone" installs_alone "$work/runs" libreqs3
+holds "dpkg installs the shared library alone" installs_alone "$work/runs" libreqs4
 holds "dpkg installs what C programs are compiled with, and not without the shared library" installs_with_the_library
 holds "files of the program" has_files "$work/program" "${of_program[@]}"
 holds "files of the shared library" has_files "$work/runs" "${of_shared[@]}"
@@ -217,11 +217,11 @@ holds "an older package reqs gives the library up" takes_over
 holds "the packages' files are those that the header and the documents tell of" has_what_is_told
 holds "the program needs the C library alone" needs_libc reqs "$work/program/usr/libexec/reqs/reqs"
 holds "the program runs on each x86-64 processor" runs_on_each_processor "$work/program/usr/libexec/reqs/reqs"
-holds "the shared library needs the C library alone" needs_libc libreqs3 "$work/runs/$libraries/libreqs.so.3"
-holds "the shared library may lie beside those for other processors" field libreqs3 Multi-Arch same
-holds "what C programs are compiled with needs the same version" field libreqs-dev Depends "libreqs3 (= $version)"
+holds "the shared library needs the C library alone" needs_libc libreqs4 "$work/runs/$libraries/libreqs.so.4"
+holds "the shared library may lie beside those for other processors" field libreqs4 Multi-Arch same
+holds "what C programs are compiled with needs the same version" field libreqs-dev Depends "libreqs4 (= $version)"
 holds "the package of the shared library is named after it" has_the_librarys_name
-holds "the library's file shlibs" told shlibs "libreqs 3 libreqs3 (>= $version)"
+holds "the library's file shlibs" told shlibs "libreqs 4 libreqs4 (>= $version)"
 holds "its file symbols has what it exports and the header declares" tells_names
 holds "its file triggers" told triggers "activate-noawait ldconfig"
 holds "the first answer of README.md" answers
@@ -229,5 +229,5 @@ holds "a link to the program" answers_through_a_link
 holds "a C program is compiled with one package, and runs with the other" links
 holds "a file that is no library is refused" refuses_what_is_no_library
 holds "dpkg removes the program" removes "$work/program" reqs
-holds "dpkg removes the library" removes "$work/compiles" libreqs-dev libreqs3
+holds "dpkg removes the library" removes "$work/compiles" libreqs-dev libreqs4
 finish deb

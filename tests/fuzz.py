@@ -7,8 +7,8 @@ tests/c/fuzz.c is linked with the archive that `./build reqs_c` makes, where non
 tests/c/corpus.jsonl, and then for so many seconds, 600 by itself, calls with texts that are changed from these by what the seed
 draws. Each call is made twice, with ample room and with less; so is, beside a command's, the one for its JSON, which has to end
 alike. No call may read or write past what it is given, keep memory, reply twice otherwise, name a place outside of its texts, or
-print what doesn't read back. A line of corpus.jsonl is a call, its texts, of which `\\udcXX` is the byte XX, and maybe a limit; a
-call that fails is printed as such a line. The last line is `fuzz: N passed, M failed`.
+print what doesn't read back. A line of corpus.jsonl is a call, its texts, of which `\\udcXX` is the byte XX, and maybe how many
+cases, nodes and clauses it may make; a call that fails is printed as such a line. The last line is `fuzz: N passed, M failed`.
 """
 
 import argparse
@@ -19,7 +19,7 @@ import subprocess
 import sys
 import tempfile
 
-from calls import CALLS, request
+from calls import CALLS, NO_BOUND, request
 
 TOP = os.path.dirname(os.path.dirname(os.path.abspath(__file__)))
 CORPUS = os.path.join(TOP, "tests", "c", "corpus.jsonl")
@@ -32,18 +32,19 @@ def corpus():
     """The requests of the corpus, as the program reads them."""
     with open(CORPUS, encoding="utf-8") as file:
         for line in file:
-            call, texts, *limit = json.loads(line)
-            yield request(call, [it.encode("utf-8", "surrogateescape") for it in texts], *(limit or [LIMIT]), 0)
+            call, texts, *bounds = json.loads(line)
+            limit, *most = (*bounds, *(LIMIT, NO_BOUND, NO_BOUND, NO_BOUND)[len(bounds) :])
+            yield request(call, [it.encode("utf-8", "surrogateescape") for it in texts], limit, 0, *most)
 
 
 def line_of(asked):
     """A request as a line of the corpus."""
-    which, limit, _, count = struct.unpack_from("<4Q", asked)
-    at, texts = 32 + 8 * count, []
-    for size in struct.unpack_from(f"<{count}Q", asked, 32):
+    which, *bounds, _, count = struct.unpack_from("<7Q", asked)
+    at, texts = 56 + 8 * count, []
+    for size in struct.unpack_from(f"<{count}Q", asked, 56):
         texts.append(asked[at : at + size].decode("utf-8", "surrogateescape"))
         at += size
-    return json.dumps([CALLS[which], texts, limit])
+    return json.dumps([CALLS[which], texts, *bounds])
 
 
 def ran(library, seconds, seed=1):

@@ -292,6 +292,23 @@ def limits(number):
             yield [*words, "--limit", number], texts, (2, "", None)
 
 
+def bounded(number):
+    """Bounds up to the greatest, which nothing passes."""
+    for words, texts, wanted in (*same("foo\n", "foo\n"), *alone("normal", "foo\n", "foo\n")):
+        yield [*words, "--nodes", number, "--clauses", number], texts, wanted
+    for words, texts, wanted in alone("conflicts", "foo\n"):
+        yield [*words, "--nodes", number, "--cases", number], texts, wanted
+
+
+def bounds_past(number):
+    """Bounds past the greatest, in whose place the program's help says what may stand there."""
+    for words, texts, _ in (*same("foo\n", "foo\n"), *alone("normal", "foo\n", "foo\n")):
+        yield [*words, "--nodes", number], texts, (2, "", None)
+        yield [*words, "--clauses", number], texts, (2, "", None)
+    for words, texts, _ in alone("conflicts", "foo\n"):
+        yield [*words, "--cases", number], texts, (2, "", None)
+
+
 # ---- all of them
 
 
@@ -313,6 +330,8 @@ def kinds() -> Tuple:
         *((f"the marker {of}", lambda it, of=of: markers_past(of, it), PAST) for of in RAISING),
         ("environments", environments_past, PAST),
         ("limits", limits, (*GREATEST, *PAST)),
+        ("bounds", bounded, GREATEST),
+        ("bounds", bounds_past, PAST),
     )  # fmt: skip
 
 

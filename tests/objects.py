@@ -30,17 +30,21 @@ KINDS = (
     ("shape", r"not an object|not a list"),
     ("member", r"environment \d+: member \w+ is missing or no text"),
     ("version", r"environment \d+: member \w+ is no version"),
-    ("too-many-cases", r"more than \d+ cases for [a-z0-9-]+"),
+    ("too-many-cases", r"more than \d+ cases (for [a-z0-9-]+|in all)"),
 )
 LINE_KINDS = (
     ("number-at-end", r"a version number can't be raised"),
     ("refused", r"URL|===|post-release after a bound|single quote|deprecated key|version bound"),
     ("candidate", r"shape|name|version"),
+    ("too-many-nodes", r"more than \d+ nodes"),
+    ("too-many-clauses", r"more than \d+ clauses"),
 )
 WITHOUT_PATH = (
     ("write", r"write fault"),
     ("memory", r"out of memory"),
     ("extra", r"extra .* is no name"),
+    ("too-many-nodes", r"more than \d+ nodes"),
+    ("too-many-clauses", r"more than \d+ clauses for [a-z0-9-]+"),
     ("command-line", r"standard input \(-\) can be one input alone"),
 )
 

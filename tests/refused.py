@@ -167,6 +167,8 @@ def commands(room):
     yield "matrix:", ["matrix", *environments], room, (0, b"env 1\nfoo-bar 1.19\nenv 2\nfoo-bar 1.19\n", b"")
     cases = b"reqs: requirements.txt: more than 0 cases for foo-bar\n"
     yield "too many cases:", ["matrix", *environments, "--limit", "0"], room, (2, b"", cases)
+    yield "too many cases in all:", ["matrix", *environments, "--cases", "0"], room, (
+        2, b"", b"reqs: requirements.txt: more than 0 cases in all\n")
     yield "no list of environments:", ["matrix", *files], room, (2, b"", b"reqs: environment.json: not a list\n")
     yield from commands_on_lists(room)
     yield from commands_for_objects(room, files)
@@ -204,13 +206,21 @@ def commands_on_lists(room):
     yield "same, everywhere:", ["same", "APART", "RIGHT"], room, (1, b"no\nbar\nall environments\n", b"")
     cases = b"reqs: RIGHT: more than 1 cases for foo-bar\n"
     yield "same, too many cases:", ["same", "REQS", "RIGHT", "--limit", "1"], room, (2, b"", cases)
+    yield "same, too many nodes:", ["same", "LEFT", "RIGHT", "--nodes", "1"], room, (
+        2, b"", b"reqs: LEFT: line 2: more than 1 nodes\n")
+    yield "same, too many clauses:", ["same", "OTHER", "LEFT", "--nodes", "9", "--clauses", "0"], room, (
+        2, b"", b"reqs: more than 0 clauses for foo-bar\n")
     yield "same, a URL:", ["same", "LEFT", "URL"], room, (2, b"", b"reqs: URL: line 1: URL\n")
     yield "conflicts:", ["conflicts", "APART"], room, (0, b"bar 2 pre\nfoo 1,3\n", b"")
     yield "conflicts, too many cases:", ["conflicts", "APART", "--limit", "1"], room, (
         2, b"", b"reqs: APART: more than 1 cases for foo\n")
+    yield "conflicts, too many cases in all:", ["conflicts", "APART", "--cases", "2"], room, (
+        2, b"", b"reqs: APART: more than 2 cases in all\n")
     normal = (b"foo-bar[b,a]>=1,<2 ; python_full_version >= '3.8'\n"
               b"x==1 ; extra == 'dev' or os_name == 'nt'\n")
     yield "normal:", ["normal", "LEFT"], room, (0, normal, b"")
+    yield "normal, too many clauses:", ["normal", "LEFT", "--clauses", "1"], room, (
+        2, b"", b"reqs: LEFT: line 2: more than 1 clauses\n")
     yield "normal, a URL:", ["normal", "URL"], room, (2, b"", b"reqs: URL: line 1: URL\n")
 
 

@@ -52,7 +52,7 @@ makes() {
 }
 
 names_its_files() {
-    printf '%s\n' "$first/dist"/{*.whl,reqs_*.deb,libreqs3_*.deb,libreqs-dev_*.deb,SHA256SUMS,README.md} | cmp - "$work/out"
+    printf '%s\n' "$first/dist"/{*.whl,reqs_*.deb,libreqs4_*.deb,libreqs-dev_*.deb,SHA256SUMS,README.md} | cmp - "$work/out"
 }
 
 # For another caller, at another time, by one processor.
@@ -96,7 +96,7 @@ first_commands() {
 verifies() {
     local it
     run "$first" verify
-    for it in "$first"/dist/{*.whl,reqs_*.deb,libreqs3_*.deb,libreqs-dev_*.deb,SHA256SUMS}; do
+    for it in "$first"/dist/{*.whl,reqs_*.deb,libreqs4_*.deb,libreqs-dev_*.deb,SHA256SUMS}; do
         echo "${it##*/}: the same"
     done | cmp - "$work/out" && [ "$status" -eq 0 ]
 }

@@ -15,6 +15,9 @@ import subprocess
 import sys
 import tempfile
 
+# The options that a run may name, each with its number.
+OPTIONS = ("limit", "cases", "nodes", "clauses")
+
 
 def to_bytes(text):
     return text.encode("utf-8", "surrogateescape")
@@ -64,21 +67,21 @@ def runs_of(stored):
     for run in stored["matrix"]:
         environments = environments_of(run, stored["environment"])
         texts = {"R": run["requirements"], "E": environments, "C": run["candidates"]}
-        yield run["name"], ["matrix", "R", "E", "C", *limit_of(run), *run.get("extras", [])], texts, end_of(run)
+        yield run["name"], ["matrix", "R", "E", "C", *options_of(run), *run.get("extras", [])], texts, end_of(run)
     for run in stored["lists"]:
         command, wanted = run["command"], end_of(run)
         name = f"{command}: {run['name']}"
         if command != "same":
-            yield name, [command, "REQS", *limit_of(run)], {"REQS": run["requirements"]}, wanted
+            yield name, [command, "REQS", *options_of(run)], {"REQS": run["requirements"]}, wanted
             continue
         texts = {"LEFT": run["left"], "RIGHT": run["right"]}
-        yield name, ["same", "LEFT", "RIGHT", *limit_of(run)], texts, wanted
+        yield name, ["same", "LEFT", "RIGHT", *options_of(run)], texts, wanted
         if run["status"] == 0:
-            yield f"{name}, exchanged", ["same", "RIGHT", "LEFT", *limit_of(run)], texts, wanted
+            yield f"{name}, exchanged", ["same", "RIGHT", "LEFT", *options_of(run)], texts, wanted
 
 
-def limit_of(run):
-    return ["--limit", str(run["limit"])] if "limit" in run else []
+def options_of(run):
+    return [word for name in OPTIONS if name in run for word in (f"--{name}", str(run[name]))]
 
 
 def end_of(run):

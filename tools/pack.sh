@@ -1,5 +1,5 @@
 #!/usr/bin/env bash
-# Makes the library for C of the proved archive crates/reqs_c/out/libreqs_c.a: beside it libreqs.a, libreqs.so.3 and the
+# Makes the library for C of the proved archive crates/reqs_c/out/libreqs_c.a: beside it libreqs.a, libreqs.so.4 and the
 # hard link libreqs.so (a symbolic one in out/ `rt ci` would refuse).
 #
 #     pack.sh
@@ -20,11 +20,11 @@ ar x "$kit/c/liblibc_c.a" heap.pic.o
 ld -r -o reqs.o ./*.o
 objcopy --wildcard --keep-global-symbol='reqs_*' reqs.o
 ar rcsD libreqs.a reqs.o
-${CC:-cc} -shared -nostartfiles -o libreqs.so.3 -Wl,-soname,libreqs.so.3 -Wl,-z,defs -Wl,-z,now -Wl,-z,relro -Wl,-z,noexecstack \
+${CC:-cc} -shared -nostartfiles -o libreqs.so.4 -Wl,-soname,libreqs.so.4 -Wl,-z,defs -Wl,-z,now -Wl,-z,relro -Wl,-z,noexecstack \
     -Wl,--gc-sections -Wl,--build-id=none -Wl,--whole-archive libreqs.a -Wl,--no-whole-archive
-strip --strip-unneeded libreqs.so.3
+strip --strip-unneeded libreqs.so.4
 # (what is the same stays, so that it can be packed again while others use it)
-for it in libreqs.a libreqs.so.3; do
+for it in libreqs.a libreqs.so.4; do
     cmp -s "$it" "$out/$it" || mv -f "$it" "$out/$it"
 done
-[ "$out/libreqs.so" -ef "$out/libreqs.so.3" ] || ln -f "$out/libreqs.so.3" "$out/libreqs.so"
+[ "$out/libreqs.so" -ef "$out/libreqs.so.4" ] || ln -f "$out/libreqs.so.4" "$out/libreqs.so"

@@ -182,7 +182,7 @@ static int read_normal(Version *it) {
         it->normal = shared(it->given);
         return 0;
     }
-    PyObject *bytes = answer(&version_call, &text, 0, 0), *normal = NULL;
+    PyObject *bytes = answer(&version_call, &text, NULL, 0), *normal = NULL;
     if (bytes && !text_of_bytes(bytes, &answered)) {
         if (answered.len == text.len && !memcmp(answered.at, text.at, text.len)) normal = shared(it->given);
         else normal = PyUnicode_DecodeUTF8((const char *)answered.at, (Py_ssize_t)answered.len, NULL);
@@ -484,7 +484,7 @@ static int specifier_init(PyObject *self, PyObject *args, PyObject *names) {
     uint8_t out[2 * SHORT];
     if (two_arguments(self, args, names, "spec", &given, &prereleases)) return -1;
     if (!given || !plain_text(given, &text, NULL) || text.len > SHORT) return init_written(self, args, names);
-    reqs_reply reply = reply_of(&specifiers_call, &text, 0, out, sizeof out);
+    reqs_reply reply = reply_of(&specifiers_call, &text, NULL, out, sizeof out);
     strip(&text, is_space);
     if (reply.length && reply.length <= sizeof out && out[reply.length - 1] == '\n') reply.length--;
     int one = reply.status == REQS_ANSWERED && reply.length <= sizeof out && !memchr(out, '\n', reply.length);
@@ -546,7 +546,7 @@ static int set_init(PyObject *self, PyObject *args, PyObject *names) {
     uint8_t out;
     if (two_arguments(self, args, names, "specifiers", &given, &prereleases)) return -1;
     int plain = given && plain_text(given, &text, NULL) && text.len <= LONG_CALL && has_whole_pieces(text);
-    if (!plain || reply_of(&specifiers_call, &text, 0, &out, 0).status != REQS_ANSWERED)
+    if (!plain || reply_of(&specifiers_call, &text, NULL, &out, 0).status != REQS_ANSWERED)
         return init_written(self, args, names);
     Py_INCREF(given);
     if (put(self, L_GIVEN, given) || put(self, L_BYTES, encoded(NULL, given))) return -1;

@@ -17,6 +17,7 @@ enum {
     OWN = 56,         /* the bytes of a key that stands in its version */
     SHORT = 255,      /* the bytes of a version or a specifier that is copied */
     MOST_TEXTS = 4,
+    MOST_NUMBERS = 4,
 };
 
 /* A reference to an object that is always there. (Py_RETURN_NONE and its relatives make none by the headers of
@@ -73,34 +74,50 @@ static int text_of(PyObject *given, Text *text) {
 /* ---- the library's calls */
 
 typedef const uint8_t *At;
-typedef reqs_reply Of1(At, size_t, uint8_t *, size_t);
-typedef reqs_reply Of2(At, size_t, At, size_t, uint8_t *, size_t);
-typedef reqs_reply Of3(At, size_t, At, size_t, At, size_t, uint8_t *, size_t);
-typedef reqs_reply Of4(At, size_t, At, size_t, At, size_t, At, size_t, uint8_t *, size_t);
-typedef reqs_reply Limited1(At, size_t, uint64_t, uint8_t *, size_t);
-typedef reqs_reply Limited2(At, size_t, At, size_t, uint64_t, uint8_t *, size_t);
-typedef reqs_reply Limited4(At, size_t, At, size_t, At, size_t, At, size_t, uint64_t, uint8_t *, size_t);
 
 typedef struct {
     uintptr_t address;
     int texts;   /* how many it is given */
-    int limited; /* whether a limit follows them */
+    int numbers; /* how many follow them: a limit, nodes, clauses, cases, of 64 bits each */
     int quick;   /* whether it takes time linear in its texts */
 } Call;
 
-#define TEXT(it) t[it].at, t[it].len
+_Static_assert(sizeof(size_t) == sizeof(uint64_t), "numbers of nodes and clauses have 64 bits");
 
-static reqs_reply reply_of(const Call *call, const Text *t, uint64_t limit, uint8_t *out, size_t room) {
-    uintptr_t it = call->address;
-    switch (call->texts * 2 + (call->limited != 0)) {
-    case 2: return ((Of1 *)it)(TEXT(0), out, room);
-    case 3: return ((Limited1 *)it)(TEXT(0), limit, out, room);
-    case 4: return ((Of2 *)it)(TEXT(0), TEXT(1), out, room);
-    case 5: return ((Limited2 *)it)(TEXT(0), TEXT(1), limit, out, room);
-    case 6: return ((Of3 *)it)(TEXT(0), TEXT(1), TEXT(2), out, room);
-    case 8: return ((Of4 *)it)(TEXT(0), TEXT(1), TEXT(2), TEXT(3), out, room);
-    default: return ((Limited4 *)it)(TEXT(0), TEXT(1), TEXT(2), TEXT(3), limit, out, room);
+/* The types of so many texts, of so many numbers, and what is passed for them. */
+#define TEXTS1 At, size_t
+#define TEXTS2 TEXTS1, At, size_t
+#define TEXTS3 TEXTS2, At, size_t
+#define TEXTS4 TEXTS3, At, size_t
+#define NUMBERS0
+#define NUMBERS1 uint64_t,
+#define NUMBERS2 NUMBERS1 uint64_t,
+#define NUMBERS3 NUMBERS2 uint64_t,
+#define NUMBERS4 NUMBERS3 uint64_t,
+#define ALL_TEXTS1 t[0].at, t[0].len
+#define ALL_TEXTS2 ALL_TEXTS1, t[1].at, t[1].len
+#define ALL_TEXTS3 ALL_TEXTS2, t[2].at, t[2].len
+#define ALL_TEXTS4 ALL_TEXTS3, t[3].at, t[3].len
+#define ALL_NUMBERS0
+#define ALL_NUMBERS1 n[0],
+#define ALL_NUMBERS2 ALL_NUMBERS1 n[1],
+#define ALL_NUMBERS3 ALL_NUMBERS2 n[2],
+#define ALL_NUMBERS4 ALL_NUMBERS3 n[3],
+/* A call of so many texts and numbers. */
+#define CASE(texts, numbers)                                                                                \
+    case 8 * texts + numbers:                                                                               \
+        return ((reqs_reply(*)(TEXTS##texts, NUMBERS##numbers uint8_t *, size_t))call->address)(            \
+            ALL_TEXTS##texts, ALL_NUMBERS##numbers out, room);
+#define CASES(texts) CASE(texts, 0) CASE(texts, 1) CASE(texts, 2) CASE(texts, 3) CASE(texts, 4)
+
+static reqs_reply reply_of(const Call *call, const Text *t, const uint64_t *n, uint8_t *out, size_t room) {
+    switch (8 * call->texts + call->numbers) {
+        CASES(1)
+        CASES(2)
+        CASES(3)
+        CASES(4)
     }
+    return (reqs_reply){.status = REQS_MEMORY};
 }
 
 static int is_quick(const Call *call, const Text *texts) {
@@ -122,7 +139,7 @@ static void refuse_call(const reqs_reply *reply, const uint8_t *why) {
 }
 
 /* The answer of a call as bytes, or NULL with an exception. `size` is the room that it is given at first. */
-static PyObject *answer(const Call *call, const Text *texts, uint64_t limit, size_t size) {
+static PyObject *answer(const Call *call, const Text *texts, const uint64_t *numbers, size_t size) {
     uint8_t own[ROOM], *out = own;
     PyObject *bytes = NULL;
     reqs_reply reply = {.length = size};
@@ -137,7 +154,7 @@ static PyObject *answer(const Call *call, const Text *texts, uint64_t limit, siz
             out = (uint8_t *)PyBytes_AsString(bytes);
         }
         PyThreadState *thread = is_quick(call, texts) && room <= LONG_CALL ? NULL : PyEval_SaveThread();
-        reply = reply_of(call, texts, limit, out, room);
+        reply = reply_of(call, texts, numbers, out, room);
         if (thread) PyEval_RestoreThread(thread);
     } while (reply.length > room);
     if (reply.status == REQS_ANSWERED || reply.status == REQS_DIFFERENT) {
@@ -156,33 +173,44 @@ static const char call_name[] = "fowlyore call";
 
 static void free_call(PyObject *capsule) { PyMem_Free(PyCapsule_GetPointer(capsule, call_name)); }
 
-/* The number of a keyword argument. */
-static int read_number(PyObject *names, Py_ssize_t at, PyObject *value, uint64_t *limit, size_t *size) {
-    PyObject *name = PyTuple_GetItem(names, at);
-    if (!name) return -1;
-    unsigned long long number = PyLong_AsUnsignedLongLong(value);
-    if (number == (unsigned long long)-1 && PyErr_Occurred()) return -1;
-    if (!PyUnicode_CompareWithASCIIString(name, "limit")) *limit = number;
-    else if (!PyUnicode_CompareWithASCIIString(name, "size")) *size = (size_t)number;
-    else return PyErr_Format(PyExc_TypeError, "no argument %R", name), -1;
+/* A number of 64 bits; fails where an object is none. */
+static int read_number(PyObject *value, uint64_t *number) {
+    *number = PyLong_AsUnsignedLongLong(value);
+    return *number == UINT64_MAX && PyErr_Occurred() ? -1 : 0;
+}
+
+/* The numbers that follow a call's texts, of a tuple; fails where it has others than the call wants. */
+static int read_numbers(PyObject *tuple, const Call *call, uint64_t *numbers) {
+    if (!PyTuple_Check(tuple) || PyTuple_Size(tuple) != call->numbers)
+        return PyErr_Format(PyExc_TypeError, "%R is no tuple of %d numbers", tuple, call->numbers), -1;
+    for (int i = 0; i < call->numbers; i++)
+        if (read_number(PyTuple_GetItem(tuple, i), &numbers[i])) return -1;
     return 0;
 }
 
-/* What `call` returns: given texts, and perhaps `limit=` and `size=`, it returns the answer as bytes. */
+/* What a keyword argument says. */
+static int read_word(PyObject *name, PyObject *value, const Call *call, uint64_t *numbers, uint64_t *size) {
+    if (!name) return -1;
+    if (!PyUnicode_CompareWithASCIIString(name, "numbers")) return read_numbers(value, call, numbers);
+    if (!PyUnicode_CompareWithASCIIString(name, "size")) return read_number(value, size);
+    return PyErr_Format(PyExc_TypeError, "no argument %R", name), -1;
+}
+
+/* What `call` returns: given texts, `numbers=` where it takes any, and perhaps `size=`, it returns the answer as
+ * bytes. */
 static PyObject *call_texts(PyObject *capsule, PyObject *const *given, Py_ssize_t count, PyObject *names) {
     const Call *call = PyCapsule_GetPointer(capsule, call_name);
     Text texts[MOST_TEXTS] = {{NULL, 0, NULL}};
-    uint64_t limit = 0;
-    size_t size = 0;
+    uint64_t numbers[MOST_NUMBERS] = {0}, size = 0;
     PyObject *found = NULL;
     Py_ssize_t more = names ? PyTuple_Size(names) : 0;
     int opened = 0;
     if (!call) return NULL;
     if (count != call->texts) return PyErr_Format(PyExc_TypeError, "%zd texts, not %d", count, call->texts);
     for (Py_ssize_t i = 0; i < more; i++)
-        if (read_number(names, i, given[count + i], &limit, &size)) return NULL;
+        if (read_word(PyTuple_GetItem(names, i), given[count + i], call, numbers, &size)) return NULL;
     while (opened < call->texts && !text_of(given[opened], &texts[opened])) opened++;
-    if (opened == call->texts) found = answer(call, texts, limit, size);
+    if (opened == call->texts) found = answer(call, texts, numbers, (size_t)size);
     while (opened > 0) text_close(&texts[--opened]);
     return found;
 }
@@ -190,14 +218,15 @@ static PyObject *call_texts(PyObject *capsule, PyObject *const *given, Py_ssize_
 static PyMethodDef call_method = {"call", (PyCFunction)(void (*)(void))call_texts,
                                   METH_FASTCALL | METH_KEYWORDS, NULL};
 
-/* call(address, texts, limited, quick): the library's function at an address, as a function of Python. */
+/* call(address, texts, numbers, quick): the library's function at an address, as a function of Python. */
 static PyObject *call_of(PyObject *module, PyObject *args) {
     (void)module;
     unsigned long long address;
     Call call;
-    if (!PyArg_ParseTuple(args, "Kipp:call", &address, &call.texts, &call.limited, &call.quick)) return NULL;
-    int known = call.texts > 0 && call.texts <= MOST_TEXTS && (call.texts != 3 || !call.limited);
-    if (!known || !address) return PyErr_Format(PyExc_ValueError, "no call of %d texts", call.texts);
+    if (!PyArg_ParseTuple(args, "Kiip:call", &address, &call.texts, &call.numbers, &call.quick)) return NULL;
+    int known = call.texts > 0 && call.texts <= MOST_TEXTS && call.numbers >= 0 && call.numbers <= MOST_NUMBERS;
+    if (!known || !address)
+        return PyErr_Format(PyExc_ValueError, "no call of %d texts and %d numbers", call.texts, call.numbers);
     call.address = (uintptr_t)address;
     Call *kept = PyMem_Malloc(sizeof *kept);
     if (!kept) return PyErr_NoMemory();

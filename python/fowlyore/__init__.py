@@ -8,12 +8,21 @@ proved.
 <Version('1.0.post1')>
 """
 
+from ._bounds import bounds
 from .errors import Refused
 from .distributions import installed
 from .files import read
 from .listings import Assumption, LeftOut, ListedLine, Listing, Place
 from .lists import Comparison, Conflict, InvalidInput, Row, check, conflicts, matrix, matrix_texts, normal, same
-from .markers import InvalidMarker, Marker, UndefinedComparison, UndefinedEnvironmentName, default_environment
+from .markers import (
+    InvalidMarker,
+    Marker,
+    TooManyClauses,
+    TooManyNodes,
+    UndefinedComparison,
+    UndefinedEnvironmentName,
+    default_environment,
+)
 from .offered import read_candidates, wheelhouse
 from .requirements import InvalidRequirement, Requirement
 from .specifiers import InvalidSpecifier, Specifier, SpecifierSet
@@ -41,9 +50,12 @@ __all__ = [
     "Row",
     "Specifier",
     "SpecifierSet",
+    "TooManyClauses",
+    "TooManyNodes",
     "UndefinedComparison",
     "UndefinedEnvironmentName",
     "Version",
+    "bounds",
     "check",
     "conflicts",
     "default_environment",

@@ -11,12 +11,13 @@ import ctypes
 import functools
 import importlib
 import os
+import re
 import sys
 import threading
 import types
 from typing import Any, Callable, Dict, List, NamedTuple, NoReturn, Optional, Tuple
 
-ABI = 3
+ABI = 4
 ANSWERED, DIFFERENT, REFUSED, MEMORY = 0, 1, 2, 3
 # What `reqs_version_key` gives in place of a length.
 KEY_REFUSED = -2
@@ -57,9 +58,24 @@ class Fault(Exception):
         self.length = length
 
 
+class TooManyNodes(Fault):
+    """A call whose trees have more nodes than it may make."""
+
+
+class TooManyClauses(Fault):
+    """A call that would write a marker of more clauses than it may make."""
+
+
+# What is said of a call that is refused for a bound, behind the place in a list where it has one.
+_BEYOND = re.compile(rb"(?:[a-z]+: line [0-9]+: )?more than [0-9]+ (nodes|clauses)(?: for [a-z0-9-]+)?")
+_KINDS = {b"nodes": TooManyNodes, b"clauses": TooManyClauses}
+
+
 def refuse(reason: bytes, input: int, line: int, start: int, length: int) -> NoReturn:
     """Raises the fault of a call that was refused."""
-    raise Fault(reason.decode("utf-8", "replace"), input, line, start, length)
+    beyond = _BEYOND.fullmatch(reason)
+    kind = Fault if beyond is None else _KINDS[beyond[1]]
+    raise kind(reason.decode("utf-8", "replace"), input, line, start, length)
 
 
 # Buffers of ROOM bytes that no call uses. Each call takes one and gives it back once its answer is read, so that no other
@@ -98,12 +114,13 @@ _short, _long = _load(ctypes.PyDLL), _load(ctypes.CDLL)
 DECLARED: Dict[str, Any] = {}
 
 
-def _declare(library: Any, name: str, result: Any, texts: int, limit: bool = False, out: bool = True) -> Any:
-    """A function of the library with its types. Bytes are passed as they are, without a copy."""
+def _declare(library: Any, name: str, result: Any, texts: int, numbers: int = 0, out: bool = True) -> Any:
+    """A function of the library with its types: texts, and then numbers. Bytes are passed as they are, without a
+    copy."""
     call = DECLARED[name] = library[name]
     call.restype = result
     call.argtypes = [ctypes.c_char_p, ctypes.c_size_t] * texts
-    call.argtypes += [ctypes.c_uint64] * limit + [ctypes.c_void_p, ctypes.c_size_t] * out
+    call.argtypes += [ctypes.c_uint64] * numbers + [ctypes.c_void_p, ctypes.c_size_t] * out
     return call
 
 
@@ -184,17 +201,17 @@ def instead_of(name: str, written: Any) -> Any:
 
 
 def _call(
-    name: str, texts: int, limit: bool = False, short: bool = False, linear: bool = False, long: Optional[int] = None
+    name: str, texts: int, numbers: int = 0, short: bool = False, linear: bool = False, long: Optional[int] = None
 ) -> Callable[..., bytes]:
-    """A function of the library, which is given so many texts, and as `limit` a number if there is one, and returns
-    its answer. `size` may be given too: the room for the answer at first, which is enough for most.
+    """A function of the library, which is given so many texts, and as `numbers` so many numbers if there are any, and
+    returns its answer. `size` may be given too: the room for the answer at first, which is enough for most.
 
     `short` is one on single versions and specifiers, and `linear` one that takes time linear in its texts. From `long` bytes
     of texts on it can be interrupted."""
-    function = _declare(_short if short else _long, name, Reply, texts, limit)
+    function = _declare(_short if short else _long, name, Reply, texts, numbers)
     made: Callable[..., bytes] = functools.partial(_answer, function)
     if extension is not None:
-        made = extension.call(_address(function), texts, limit, short or linear)
+        made = extension.call(_address(function), texts, numbers, short or linear)
     return made if long is None else _interruptible(made, long)
 
 
@@ -251,14 +268,13 @@ def _encoded(text: str) -> bytes:
 encoded: Callable[[str], bytes] = _encoded if extension is None else extension.encoded
 
 
-def _ask(call: Any, texts: Tuple[bytes, ...], limit: Optional[int] = None, size: int = ROOM) -> Tuple[Reply, bytes]:
+def _ask(call: Any, texts: Tuple[bytes, ...], numbers: Tuple[int, ...] = (), size: int = ROOM) -> Tuple[Reply, bytes]:
     """The reply of a call and its whole text; the call is repeated with more room if `size` was too little.
     """
     words: List[Any] = []
     for text in texts:
         words += (text, len(text))
-    if limit is not None:
-        words.append(limit)
+    words += numbers
     if size <= ROOM:
         try:
             buffer = take_buffer()
@@ -272,12 +288,12 @@ def _ask(call: Any, texts: Tuple[bytes, ...], limit: Optional[int] = None, size:
         size = reply.length
     buffer = ctypes.create_string_buffer(size)
     reply = call(*words, buffer, size)
-    return (reply, buffer[: reply.length]) if reply.length <= size else _ask(call, texts, limit, reply.length)
+    return (reply, buffer[: reply.length]) if reply.length <= size else _ask(call, texts, numbers, reply.length)
 
 
-def _answer(call: Any, *texts: bytes, limit: Optional[int] = None, size: int = ROOM) -> bytes:
+def _answer(call: Any, *texts: bytes, numbers: Tuple[int, ...] = (), size: int = ROOM) -> bytes:
     """The answer of a call. Raises `Fault` if it is refused, and `MemoryError` when memory runs out."""
-    reply, text = _ask(call, texts, limit, size)
+    reply, text = _ask(call, texts, numbers, size)
     if reply.status == MEMORY:
         raise MemoryError("libreqs")
     if reply.status == REFUSED:
@@ -290,23 +306,24 @@ _specifiers = _call("reqs_specifiers", 1, short=True)
 _take_one = _call("reqs_specifiers_take", 2, short=True)
 _take = _call("reqs_specifiers_take", 2, linear=True, long=LONG_TEXTS)
 _requirement = _call("reqs_requirement", 1, linear=True)
-_marker = _call("reqs_marker", 1, long=LONG_MARKERS)
-_marker_key = _call("reqs_marker_key", 1, long=LONG_MARKERS)
-_marker_truth = _call("reqs_marker_truth", 1, long=LONG_MARKERS)
-_markers_disjoint = _call("reqs_markers_disjoint", 2, long=LONG_MARKERS)
-_marker_implies = _call("reqs_marker_implies", 2, long=LONG_MARKERS)
-_marker_negated = _call("reqs_marker_negated", 1, long=LONG_MARKERS)
-_marker_simplify_python = _call("reqs_marker_simplify_python", 3, long=LONG_MARKERS)
-_marker_simplify_extras = _call("reqs_marker_simplify_extras", 2, long=LONG_MARKERS)
+_marker_check = _call("reqs_marker_check", 1, linear=True)
+_marker = _call("reqs_marker", 1, numbers=2, long=LONG_MARKERS)
+_marker_key = _call("reqs_marker_key", 1, numbers=1, long=LONG_MARKERS)
+_marker_truth = _call("reqs_marker_truth", 1, numbers=1, long=LONG_MARKERS)
+_markers_disjoint = _call("reqs_markers_disjoint", 2, numbers=1, long=LONG_MARKERS)
+_marker_implies = _call("reqs_marker_implies", 2, numbers=1, long=LONG_MARKERS)
+_marker_negated = _call("reqs_marker_negated", 1, numbers=2, long=LONG_MARKERS)
+_marker_simplify_python = _call("reqs_marker_simplify_python", 3, numbers=2, long=LONG_MARKERS)
+_marker_simplify_extras = _call("reqs_marker_simplify_extras", 2, numbers=2, long=LONG_MARKERS)
 _specifiers_disjoint = _call("reqs_specifiers_disjoint", 2, long=LONG_TEXTS)
 _specifiers_subset = _call("reqs_specifiers_subset", 2, long=LONG_TEXTS)
 _specifiers_empty = _call("reqs_specifiers_empty", 1, long=LONG_TEXTS)
 _markers_hold = _call("reqs_markers_hold", 3, linear=True)
 _check = _call("reqs_check", 4, long=LONG_TEXTS)
-_matrix = _call("reqs_matrix", 4, limit=True, long=LONG_MARKERS)
-_same = _call("reqs_same", 2, limit=True, long=LONG_MARKERS)
-_conflicts = _call("reqs_conflicts", 1, limit=True, long=LONG_MARKERS)
-_normal = _call("reqs_normal", 1, long=LONG_MARKERS)
+_matrix = _call("reqs_matrix", 4, numbers=3, long=LONG_MARKERS)
+_same = _call("reqs_same", 2, numbers=4, long=LONG_MARKERS)
+_conflicts = _call("reqs_conflicts", 1, numbers=3, long=LONG_MARKERS)
+_normal = _call("reqs_normal", 1, numbers=2, long=LONG_MARKERS)
 
 
 def lines_of(answer: str) -> List[str]:
@@ -398,45 +415,54 @@ def _standing_at(text: bytes, place: str) -> Optional[str]:
     return text[start : start + length].decode()
 
 
-def marker(text: bytes) -> str:
+# Calls on markers are given how many nodes they may make, and those that write a marker how many clauses: they raise
+# `TooManyNodes` and `TooManyClauses`.
+
+
+def marker_check(text: bytes) -> None:
+    """Raises `Fault` if a text is not a marker."""
+    _marker_check(text)
+
+
+def marker(text: bytes, nodes: int, clauses: int) -> str:
     """A marker's normal text, which is empty if it always holds. Raises `Fault` if it has none."""
-    return _marker(text).decode()
+    return _marker(text, numbers=(nodes, clauses)).decode()
 
 
-def marker_key(text: bytes) -> bytes:
+def marker_key(text: bytes, nodes: int) -> bytes:
     """A marker's key, which markers with the same meaning have in common."""
-    return _marker_key(text)
+    return _marker_key(text, numbers=(nodes,))
 
 
-def marker_truth(text: bytes) -> bytes:
+def marker_truth(text: bytes, nodes: int) -> bytes:
     """`1` if the marker always holds, `0` if it never does, and otherwise `-`."""
-    return _marker_truth(text)
+    return _marker_truth(text, numbers=(nodes,))
 
 
-def markers_disjoint(left: bytes, right: bytes) -> bool:
+def markers_disjoint(left: bytes, right: bytes, nodes: int) -> bool:
     """Whether the two markers never hold together."""
-    return _markers_disjoint(left, right) == b"1"
+    return _markers_disjoint(left, right, numbers=(nodes,)) == b"1"
 
 
-def marker_implies(left: bytes, right: bytes) -> bool:
+def marker_implies(left: bytes, right: bytes, nodes: int) -> bool:
     """Whether the right marker holds wherever the left one does."""
-    return _marker_implies(left, right) == b"1"
+    return _marker_implies(left, right, numbers=(nodes,)) == b"1"
 
 
-def marker_negated(text: bytes) -> str:
+def marker_negated(text: bytes, nodes: int, clauses: int) -> str:
     """The normal text of the marker's negation, which holds where the marker doesn't."""
-    return _marker_negated(text).decode()
+    return _marker_negated(text, numbers=(nodes, clauses)).decode()
 
 
-def marker_simplify_python(text: bytes, lower: bytes, upper: bytes) -> str:
+def marker_simplify_python(text: bytes, lower: bytes, upper: bytes, nodes: int, clauses: int) -> str:
     """The normal text of a marker, simplified for a `python_full_version` that is at least `lower` and below
     `upper`; an empty text is no bound."""
-    return _marker_simplify_python(text, lower, upper).decode()
+    return _marker_simplify_python(text, lower, upper, numbers=(nodes, clauses)).decode()
 
 
-def marker_simplify_extras(text: bytes, extras: bytes) -> str:
+def marker_simplify_extras(text: bytes, extras: bytes, nodes: int, clauses: int) -> str:
     """The normal text of a marker, simplified for the presence of the extras, one per line."""
-    return _marker_simplify_extras(text, extras).decode()
+    return _marker_simplify_extras(text, extras, numbers=(nodes, clauses)).decode()
 
 
 def markers_hold(markers: bytes, environment: bytes, extras: bytes) -> bytes:
@@ -450,23 +476,30 @@ def check(requirements: bytes, environment: bytes, candidates: bytes, extras: by
     return _check(requirements, environment, candidates, extras, size=size).decode()
 
 
-def matrix(requirements: bytes, environments: bytes, candidates: bytes, extras: bytes, limit: int) -> str:
+# Calls on lists are given how many cases a package may have, how many nodes and clauses they may make, and how many cases all
+# packages may have together, each but for what it doesn't make: they raise `TooManyNodes` and `TooManyClauses`.
+
+
+def matrix(
+    requirements: bytes, environments: bytes, candidates: bytes, extras: bytes, limit: int, nodes: int, cases: int
+) -> str:
     """What `reqs matrix` prints."""
     # (each environment has this member, and a row is seldom longer than the line that asks for it)
     size = ROOM + min(len(requirements) * environments.count(b'"sys_platform"'), MOST_ROOM)
-    return _matrix(requirements, environments, candidates, extras, limit=limit, size=size).decode()
+    numbers = limit, nodes, cases
+    return _matrix(requirements, environments, candidates, extras, numbers=numbers, size=size).decode()
 
 
-def same(left: bytes, right: bytes, limit: int) -> str:
+def same(left: bytes, right: bytes, limit: int, nodes: int, clauses: int, cases: int) -> str:
     """What `reqs same` prints."""
-    return _same(left, right, limit=limit).decode()
+    return _same(left, right, numbers=(limit, nodes, clauses, cases)).decode()
 
 
-def conflicts(requirements: bytes, limit: int) -> str:
+def conflicts(requirements: bytes, limit: int, nodes: int, cases: int) -> str:
     """What `reqs conflicts` prints."""
-    return _conflicts(requirements, limit=limit, size=_size_for(requirements)).decode()
+    return _conflicts(requirements, numbers=(limit, nodes, cases), size=_size_for(requirements)).decode()
 
 
-def normal(requirements: bytes) -> str:
+def normal(requirements: bytes, nodes: int, clauses: int) -> str:
     """What `reqs normal` prints."""
-    return _normal(requirements, size=_size_for(requirements)).decode()
+    return _normal(requirements, numbers=(nodes, clauses), size=_size_for(requirements)).decode()

@@ -6,6 +6,7 @@ import re
 from typing import Dict, FrozenSet, Iterable, List, Set, Tuple
 
 from . import _native
+from ._bounds import most_nodes
 from .utils import normal_name
 
 __all__ = ["ALWAYS", "Misplaced", "NotFollowed", "OwnExtras", "of_lock", "truth"]
@@ -143,5 +144,8 @@ def _named(found: "re.Match[str]") -> str:
 
 def truth(marker: str) -> bytes:
     """`1` where a marker that can be read holds under all conditions, `0` where it holds under none, and else
-    `-`."""
-    return _native.marker_truth(_native.encoded(marker))
+    `-`; also where that isn't found out within `bounds`."""
+    try:
+        return _native.marker_truth(_native.encoded(marker), most_nodes())
+    except _native.TooManyNodes:
+        return b"-"

@@ -8,6 +8,7 @@ from dataclasses import dataclass
 from typing import AbstractSet, Dict, List, NamedTuple, Optional, Sequence, Tuple
 
 from . import _native
+from .conditions import truth
 
 # What an assumption about the interpreter's version is called, and one about an environment.
 REQUIRES_PYTHON, ENVIRONMENTS = "requires-python", "environments"
@@ -314,7 +315,7 @@ class _Asked:
         """Takes in a line. One that can't be read is left to the library, which refuses it."""
         try:
             parts = _native.requirement(_native.encoded(text))
-            always = parts.marker is None or _native.marker_truth(_native.encoded(parts.marker)) == b"1"
+            always = parts.marker is None or truth(parts.marker) == b"1"
         except _native.Fault:
             return
         markers = self._markers.setdefault(parts.name, {})

@@ -9,13 +9,14 @@ import operator
 import os
 import re
 from dataclasses import dataclass, field
-from typing import Any, Callable, Iterable, Iterator, List, Mapping, Optional, Sequence, Set, Tuple, TypeVar, Union
+from typing import Any, Callable, Iterable, Iterator, List, Mapping, Optional, Sequence, Set, Tuple, Type, TypeVar, Union
 
 from . import _native
+from ._bounds import USUAL, Most, most_cases, most_clauses, most_nodes
 from .errors import Refused, characters, columns
 from .distributions import installed
 from .listings import COMMENT, ENVIRONMENTS, REQUIRES_PYTHON, Listing, Located, Place, TooLong
-from .markers import completed, environment_json
+from .markers import TooManyClauses, TooManyNodes, completed, environment_json
 from .requirements import InvalidRequirement, Requirement
 from .specifiers import SpecifierSet
 from .urls import warn_of_marker_in
@@ -87,6 +88,17 @@ class InvalidInput(Refused):
         if self.path and self.message.startswith(front):
             return f"{self.path}: {self.message[len(front) :]}"
         return self.message
+
+
+class InputOfTooManyNodes(InvalidInput, TooManyNodes):
+    """A list whose markers' decision trees have more nodes than a call may make (`fowlyore.bounds`)."""
+
+
+class InputOfTooManyClauses(InvalidInput, TooManyClauses):
+    """A list of which a call would write a marker of more clauses than it may make (`fowlyore.bounds`)."""
+
+
+_KINDS = {_native.TooManyNodes: InputOfTooManyNodes, _native.TooManyClauses: InputOfTooManyClauses}
 
 
 @dataclass(frozen=True)
@@ -280,13 +292,22 @@ def extras_input(given: Extras) -> Input:
     return Input("extras", _native.encoded("\n".join(extras)))
 
 
-def answered(call: Callable[..., Answer], *inputs: Input, limit: Optional[int] = None) -> Answer:
+def answered(call: Callable[..., Answer], *inputs: Input, numbers: Tuple[int, ...] = ()) -> Answer:
     """The answer of a call, or the error with the input that is refused and the place in it."""
-    more = () if limit is None else (_checked(limit),)
     try:
-        return call(*(it.text for it in inputs), *more)
+        return call(*(it.text for it in inputs), *numbers)
     except _native.Fault as fault:
-        raise _refusal(fault, inputs) from None
+        raise _of_kind(_refusal(fault, inputs), _KINDS.get(type(fault))) from None
+
+
+def _of_kind(error: InvalidInput, kind: Optional[Type[InvalidInput]]) -> InvalidInput:
+    """An error as one of this kind."""
+    if kind is None:
+        return error
+    return kind(
+        error.message, input=error.input, path=error.path, entry=error.entry, text=error.text, line=error.line,
+        start=error.start, end=error.end,
+    )  # fmt: skip
 
 
 def _checked(limit: int) -> int:
@@ -436,6 +457,8 @@ def matrix(
     extras: Extras = (),
     limit: Optional[int] = None,
     *,
+    nodes: Most = USUAL,
+    cases: Most = USUAL,
     ignore_requires_python: bool = False,
 ) -> List[List[Row]]:
     """The rows of `check` for each of some environments, which are complete: no value is taken from the
@@ -447,8 +470,11 @@ def matrix(
     lines between environments, `check` is called for each environment, which takes longer. With a `limit`,
     from 0 to 1,000,000, a package with more cases is refused: who names one wants the table or none.
 
-    Raises `InvalidInput` for an input that is refused, and for the first package by name with more cases than
-    a given `limit`.
+    `nodes` and `cases` are bounds on the nodes of the markers' trees and on the cases of all packages together,
+    or None for none (`fowlyore.bounds` has those that are not given).
+
+    Raises `InvalidInput` for an input that is refused, for the first package by name with more cases than a given
+    `limit`, and beyond a bound, which is a `TooManyNodes` beyond that on nodes.
 
     >>> from fowlyore import default_environment
     >>> linux = {**default_environment(), "sys_platform": "linux"}
@@ -457,7 +483,8 @@ def matrix(
     [[], [Row(name='colorama', extras=(), outcome='0.4.6')]]
     """
     texts = matrix_texts(
-        requirements, environments, candidates, extras, limit, ignore_requires_python=ignore_requires_python
+        requirements, environments, candidates, extras, limit, nodes=nodes, cases=cases,
+        ignore_requires_python=ignore_requires_python,
     )  # fmt: skip
     return [rows_of(it) for it in texts]
 
@@ -469,12 +496,14 @@ def matrix_texts(
     extras: Extras = (),
     limit: Optional[int] = None,
     *,
+    nodes: Most = USUAL,
+    cases: Most = USUAL,
     ignore_requires_python: bool = False,
 ) -> List[str]:
     """The rows of `matrix` as one text for each environment, which is what `reqs check` prints for it.
 
     For large answers this needs a small part of the time and of the memory of `matrix`. A `limit`, and having
-    none, means what it does there.
+    none, means what it does there, and so do `nodes` and `cases`.
 
     >>> environment = environment_json(completed(None)).decode()
     >>> matrix_texts("b>=1\\na", f"[{environment}, {environment}]", {"a": ["1"], "b": []})
@@ -484,10 +513,11 @@ def matrix_texts(
         requirements_input(requirements), environments_input(environments), candidates_input(candidates),
         extras_input(extras),
     )  # fmt: skip
-    texts = _texts_of_matrix(inputs, limit)
+    most = most_nodes(nodes), most_cases(cases)
+    texts = _texts_of_matrix(inputs, limit, most)
     listing = inputs[0].listing
     if listing is not None and listing.has_constraints:
-        asked = _texts_of_matrix((Input("requirements", listing.asking), *inputs[1:]), limit)
+        asked = _texts_of_matrix((Input("requirements", listing.asking), *inputs[1:]), limit, most)
         texts = [_rows_of_names(text, _names_of(those)) for text, those in zip(texts, asked)]
     if listing is not None and not ignore_requires_python:
         for number, it in enumerate(json.loads(inputs[1].text), 1):
@@ -505,11 +535,14 @@ def _rows_of_names(text: str, names: Set[str]) -> str:
     return "".join(f"{it}\n" for it in _native.lines_of(text) if it.split(" ", 1)[0].split("[", 1)[0] in names)
 
 
-def _texts_of_matrix(inputs: Tuple[Input, Input, Input, Input], limit: Optional[int]) -> List[str]:
+def _texts_of_matrix(
+    inputs: Tuple[Input, Input, Input, Input], limit: Optional[int], most: Tuple[int, int]
+) -> List[str]:
     """The rows of each environment, as one text; without a limit also of packages that have too many cases
-    for a table."""
+    for a table. `most` are bounds on nodes and on all cases."""
+    numbers = (LIMIT if limit is None else _checked(limit), *most)
     try:
-        answer = answered(_native.matrix, *inputs, limit=LIMIT if limit is None else limit)
+        answer = answered(_native.matrix, *inputs, numbers=numbers)
     except InvalidInput as error:
         if limit is not None or not error.message.startswith(_TOO_MANY_CASES):
             raise
@@ -544,7 +577,10 @@ def texts_of(answer: str) -> List[str]:
     return [answer[begin:end] for (_, begin), end in zip(found, ends)]
 
 
-def same(left: Requirements, right: Requirements, limit: int = LIMIT) -> Comparison:
+def same(
+    left: Requirements, right: Requirements, limit: int = LIMIT, *, nodes: Most = USUAL, clauses: Most = USUAL,
+    cases: Most = USUAL,
+) -> Comparison:  # fmt: skip
     """Whether two lists require the same of every package, whatever the truth of their markers is, and if
     not, where they first differ.
 
@@ -555,30 +591,39 @@ def same(left: Requirements, right: Requirements, limit: int = LIMIT) -> Compari
     points between versions, as those of `~=1.2` and `>=1.2,<2` do. Raises `InvalidInput` for a list that is
     refused, for the first line that can't be compared, and for a package with more cases than `limit`.
 
+    `nodes`, `clauses` and `cases` are bounds on the nodes of both lists' trees, on the clauses of the `place` and on
+    the cases of all packages of either list, or None for none (`fowlyore.bounds` has those that are not given).
+    Beyond the first two the `InvalidInput` is a `TooManyNodes` or a `TooManyClauses`.
+
     >>> bool(same("foo>=1,<2", ["foo<2.0", "foo>=1"]))
     True
     >>> same("foo>=1", "foo>=1\\nfoo<2 ; os_name == 'nt'")
     Comparison(package='foo', place="os_name == 'nt'")
     """
-    answer = answered(_native.same, _asking_input(left, "left"), _asking_input(right, "right"), limit=limit)
+    inputs = _asking_input(left, "left"), _asking_input(right, "right")
+    numbers = _checked(limit), most_nodes(nodes), most_clauses(clauses), most_cases(cases)
+    answer = answered(_native.same, *inputs, numbers=numbers)
     lines = _native.lines_of(answer)
     return Comparison() if lines == ["yes"] else Comparison(lines[1], lines[2])
 
 
-def conflicts(requirements: Requirements, limit: int = LIMIT) -> List[Conflict]:
+def conflicts(
+    requirements: Requirements, limit: int = LIMIT, *, nodes: Most = USUAL, cases: Most = USUAL
+) -> List[Conflict]:
     """The lines of a list that contradict each other when they apply together: their version ranges have no
     point in common.
 
     No plain version, one without a local part that is no post-release, is accepted by all lines of a
     conflict. Other versions may be: `torch==2.0+cu118` and `torch<=2.0` are a conflict, and both accept
-    2.0+cu118. Raises `InvalidInput` for a list that is refused, and for the first package by name with more
-    cases than `limit`.
+    2.0+cu118. Raises `InvalidInput` for a list that is refused, for the first package by name with more
+    cases than `limit`, and beyond the bounds `nodes` and `cases`, as `matrix` does.
 
     >>> conflicts(["numpy>=1.26", "numpy<1.26 ; sys_platform == 'win32'"])
     [Conflict(name='numpy', lines=(1, 2), names_prerelease=False)]
     """
     given = requirements_input(requirements)
-    answer = answered(_native.conflicts, given, limit=limit)
+    numbers = _checked(limit), most_nodes(nodes), most_cases(cases)
+    answer = answered(_native.conflicts, given, numbers=numbers)
     found = []
     for line in _native.lines_of(answer):
         name, numbers, *pre = line.split(" ")
@@ -595,11 +640,13 @@ def _placed(found: List[Conflict], listing: Listing) -> List[Conflict]:
     ]  # fmt: skip
 
 
-def normal(requirements: Requirements) -> List[str]:
+def normal(requirements: Requirements, *, nodes: Most = USUAL, clauses: Most = USUAL) -> List[str]:
     """The lines of a list in one normal form, without those that never apply. Raises `InvalidInput` for a
-    list that is refused, and for the first line that has no normal form.
+    list that is refused, for the first line that has no normal form, and beyond the bounds `nodes` and `clauses`, as
+    `same` does; `clauses` counts those of each line.
 
     >>> normal("Foo_Bar [b , a] < 2.0 , >= 1.16 ; python_version >= '3.8'")
     ["foo-bar[b,a]>=1.16,<2.0 ; python_full_version >= '3.8'"]
     """
-    return _native.lines_of(answered(_native.normal, _asking_input(requirements)))
+    given = _asking_input(requirements)
+    return _native.lines_of(answered(_native.normal, given, numbers=(most_nodes(nodes), most_clauses(clauses))))

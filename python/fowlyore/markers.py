@@ -10,11 +10,13 @@ import sys
 from typing import TYPE_CHECKING, Any, Callable, Dict, Iterable, List, Literal, Mapping, NamedTuple, Optional, Tuple, Type, Union
 
 from . import _native
+from ._bounds import USUAL, Most, most_clauses, most_nodes
 from .errors import Refused, on_one_line, refusal
 from .version import InvalidVersion, Version, text_of
 
 __all__ = [
-    "EvaluateContext", "InvalidMarker", "Marker", "UndefinedComparison", "UndefinedEnvironmentName", "default_environment",
+    "EvaluateContext", "InvalidMarker", "Marker", "TooManyClauses", "TooManyNodes", "UndefinedComparison", "UndefinedEnvironmentName",
+    "default_environment",
 ]  # fmt: skip
 
 EvaluateContext = Literal["metadata", "lock_file", "requirement"]
@@ -33,6 +35,24 @@ class InvalidMarker(Refused):
     >>> Marker("python_version >= ")
     Traceback (most recent call last):
     fowlyore.markers.InvalidMarker: Invalid marker: 'python_version >= '...
+    """
+
+
+class TooManyNodes(InvalidMarker):
+    """A marker's decision tree has more nodes than a call may make (`fowlyore.bounds`).
+
+    >>> Marker("os_name == 'nt' or extra == 'a'").implies(Marker("extra == 'a'"), nodes=1)
+    Traceback (most recent call last):
+    fowlyore.markers.TooManyNodes: more than 1 nodes
+    """
+
+
+class TooManyClauses(InvalidMarker):
+    """A marker's normal text has more clauses, before they are simplified, than a call may make (`fowlyore.bounds`).
+
+    >>> Marker("os_name == 'nt' and extra == 'a'").negate(clauses=1)
+    Traceback (most recent call last):
+    fowlyore.markers.TooManyClauses: more than 1 clauses
     """
 
 
@@ -235,10 +255,11 @@ class Marker:
     independent of one another. `<` is a total order, of the bytes by which markers are compared, and means
     nothing more.
 
-    Making a marker checks its text. The bytes by which it is compared and hashed are computed on first use,
-    and so is the normal text that `str` and `repr` return. The text can be exponentially longer than the
-    marker, and so can the bytes, though they seldom are. Raises `InvalidMarker` for a text that is not a
-    marker.
+    Making a marker checks its text, in time linear in it. The bytes by which it is compared and hashed are
+    computed on first use, and so is the normal text that `str` and `repr` return. The text can be exponentially
+    longer than the marker, and so can the bytes, though they seldom are: comparing, hashing, and each method
+    whose answer needs the marker's decision tree raise `TooManyNodes` beyond the bound in `fowlyore.bounds`,
+    and methods that return a marker `TooManyClauses`. Raises `InvalidMarker` for a text that is not a marker.
 
     >>> marker = Marker('python_version>"3.7" and os.name == "nt"')
     >>> marker == Marker('os.name == "nt" and python_full_version >= "3.8.0"')
@@ -265,15 +286,15 @@ class Marker:
             raise TypeError(f"a marker is read from a str, not from {type(marker).__name__}")
         on_one_line(InvalidMarker, marker)
         try:
-            truth = _native.marker_truth(_native.encoded(marker))
+            _native.marker_check(_native.encoded(marker))
         except _native.Fault as fault:
             message = f"Invalid marker: {marker!r}: {fault.message}"
             raise refusal(InvalidMarker, fault, marker, message) from None
-        self._set(marker.strip(), truth)
+        self._set(marker.strip())
 
-    def _set(self, given: str, truth: Optional[bytes] = None) -> None:
-        self._given, self._truth, self._joined = given, truth, ()
-        self._key = self._text = self._is_ignored = self._found_shape = None
+    def _set(self, given: str) -> None:
+        self._given, self._joined = given, ()
+        self._truth = self._key = self._text = self._is_ignored = self._found_shape = None
 
     if not TYPE_CHECKING:
 
@@ -294,8 +315,8 @@ class Marker:
     def __str__(self) -> str:
         """The normal text, which equal markers have in common. If there is none it is the text that was
         given: for a marker that always or never holds, or that has a string with a single quote, a deprecated
-        name of a key, or a version that is more than release numbers of epoch 0. Either text reads back as an
-        equal marker.
+        name of a key, or a version that is more than release numbers of epoch 0; or if it isn't made within
+        `fowlyore.bounds`. Either text reads back as an equal marker.
 
         >>> print(Marker("'x'==platform_version"))
         platform_version == 'x'
@@ -308,7 +329,7 @@ class Marker:
 
     def _normal_text(self) -> str:
         try:
-            return _native.marker(self._bytes())
+            return _native.marker(self._bytes(), most_nodes(), most_clauses())
         except _native.Fault:
             return ""
 
@@ -320,8 +341,16 @@ class Marker:
 
     def _compared(self) -> bytes:
         if self._key is None:
-            self._key = _native.marker_key(self._bytes())
+            self._key = self._asked(_native.marker_key, most_nodes())
         return self._key
+
+    def _asked(self, call: Callable[..., Any], nodes: int, *others: "Marker") -> Any:
+        """What a call answers on this marker and others, within a bound on the nodes."""
+        asked = self, *others
+        try:
+            return call(*(it._bytes() for it in asked), nodes)
+        except _native.TooManyNodes as fault:
+            raise TooManyNodes(fault.message, text=asked[fault.input - 1]._given) from None
 
     def __hash__(self) -> int:
         return hash((Marker, self._compared()))
@@ -354,24 +383,33 @@ class Marker:
 
     def _constant(self) -> bytes:
         if self._truth is None:
-            self._truth = _native.marker_truth(self._bytes())
+            self._truth = self._asked(_native.marker_truth, most_nodes())
         return self._truth
 
-    def is_disjoint(self, other: "Marker") -> bool:
-        """Whether both markers hold together under no condition (see the class).
+    def _known_constant(self) -> bytes:
+        """The same, and `-` if it isn't found out within `bounds`."""
+        try:
+            return self._constant()
+        except TooManyNodes:
+            return b"-"
+
+    def is_disjoint(self, other: "Marker", *, nodes: Most = USUAL) -> bool:
+        """Whether both markers hold together under no condition (see the class). `nodes` is the bound on the
+        nodes of both markers' decision trees together, or None for none.
 
         >>> Marker("python_version < '3.8'").is_disjoint(Marker("python_full_version >= '3.8.1'"))
         True
         """
-        return _native.markers_disjoint(self._bytes(), other._bytes())
+        return bool(self._asked(_native.markers_disjoint, most_nodes(nodes), other))
 
-    def implies(self, other: "Marker") -> bool:
-        """Whether the other marker holds under all conditions under which this one does (see the class).
+    def implies(self, other: "Marker", *, nodes: Most = USUAL) -> bool:
+        """Whether the other marker holds under all conditions under which this one does (see the class). `nodes`
+        is the bound on the nodes of both markers' decision trees together, or None for none.
 
         >>> Marker("python_version >= '3.9'").implies(Marker("python_version >= '3.8'"))
         True
         """
-        return _native.marker_implies(self._bytes(), other._bytes())
+        return bool(self._asked(_native.marker_implies, most_nodes(nodes), other))
 
     def __and__(self, other: "Marker") -> "Marker":
         """The conjunction: a marker that holds where both do. Its text is written once it is needed, and `InvalidMarker` is
@@ -400,49 +438,62 @@ class Marker:
 
     def _may_be_ignored(self) -> bool:
         """Whether `and` and `or` may ignore it: it always holds, perhaps because none of its comparisons means anything. What
-        they joined has a comparison that means something."""
+        they joined has a comparison that means something, and so has a marker whose tree has too many nodes."""
         if self._is_ignored is None:
-            self._is_ignored = not self._joined and self._constant() == b"1"
+            self._is_ignored = not self._joined and self._known_constant() == b"1"
         return self._is_ignored
 
     def __invert__(self) -> "Marker":
         return self.negate()
 
-    def negate(self) -> "Marker":
+    def negate(self, *, nodes: Most = USUAL, clauses: Most = USUAL) -> "Marker":
         """The negation: the marker that holds where this one doesn't. It is made from its normal text, at the
         cost of that text's length. Raises `InvalidMarker` if it has none, unless it always or never holds
-        (see `__str__`).
+        (see `__str__`). `nodes` and `clauses` are bounds, or None for none: `TooManyNodes` and `TooManyClauses`
+        are raised beyond them.
 
         >>> Marker("os_name == 'nt' and python_version >= '3.8'").negate()
         <Marker("python_full_version < '3.8' or os_name != 'nt'")>
         """
-        return self._answer(InvalidMarker, _native.marker_negated)
+        return self._answer(InvalidMarker, _native.marker_negated, nodes=nodes, clauses=clauses)
 
-    def simplify_python_versions(self, lower: Bound = None, upper: Bound = None) -> "Marker":
+    def simplify_python_versions(
+        self, lower: Bound = None, upper: Bound = None, *, nodes: Most = USUAL, clauses: Most = USUAL
+    ) -> "Marker":
         """A marker that holds as this one does where `python_full_version` is at least `lower` and below
-        `upper`, without the comparisons that this decides. It is made from its normal text, as by `negate`.
+        `upper`, without the comparisons that this decides. It is made from its normal text and within bounds,
+        as by `negate`.
 
         >>> marker = Marker("python_version >= '3.8' and python_version < '3.12' and os_name == 'nt'")
         >>> marker.simplify_python_versions(lower="3.9")
         <Marker("python_full_version < '3.12' and os_name == 'nt'")>
         """
         bounds = (b"" if it is None else _native.encoded(str(Version(text_of(it)))) for it in (lower, upper))
-        return self._answer(InvalidVersion, _native.marker_simplify_python, *bounds)
+        return self._answer(InvalidVersion, _native.marker_simplify_python, *bounds, nodes=nodes, clauses=clauses)
 
-    def simplify_extras(self, extras: Union[str, Iterable[str]]) -> "Marker":
+    def simplify_extras(
+        self, extras: Union[str, Iterable[str]], *, nodes: Most = USUAL, clauses: Most = USUAL
+    ) -> "Marker":
         """A marker that holds as this one does where these extras are requested, without the comparisons with them. It
-        is made from its normal text, as by `negate`. `UndefinedEnvironmentName` is raised where an extra is no name.
+        is made from its normal text and within bounds, as by `negate`. `UndefinedEnvironmentName` is raised where an
+        extra is no name.
 
         >>> Marker("extra == 'a' and (extra == 'b' or os_name == 'nt')").simplify_extras(["A"])
         <Marker("extra == 'b' or os_name == 'nt'")>
         """
         lines = _native.encoded(_lines_of([extras] if isinstance(extras, str) else extras))
-        return self._answer(UndefinedEnvironmentName, _native.marker_simplify_extras, lines)
+        return self._answer(UndefinedEnvironmentName, _native.marker_simplify_extras, lines, nodes=nodes, clauses=clauses)
 
-    def _answer(self, refused: Type[Refused], call: Callable[..., str], *more: bytes) -> "Marker":
+    def _answer(
+        self, refused: Type[Refused], call: Callable[..., str], *more: bytes, nodes: Most, clauses: Most
+    ) -> "Marker":
         """The marker of the normal text that a call returns. `refused` is raised where one of `more` is invalid."""
         try:
-            return marker_of(call(self._bytes(), *more) or _CONSTANTS[b"1"])
+            return marker_of(call(self._bytes(), *more, most_nodes(nodes), most_clauses(clauses)) or _CONSTANTS[b"1"])
+        except _native.TooManyNodes as fault:
+            raise TooManyNodes(fault.message, text=self._given) from None
+        except _native.TooManyClauses as fault:
+            raise TooManyClauses(fault.message, text=self._given) from None
         except _native.Fault as fault:
             if fault.input > 1:
                 raise refused(fault.message) from None
@@ -528,7 +579,7 @@ def _as_term(marker: Marker) -> Marker:
     shape = _shape(marker)
     if not shape.has_or or shape.depth < _DEEPEST:
         return marker
-    text = marker._normal_text() or _CONSTANTS.get(marker._constant())
+    text = marker._normal_text() or _CONSTANTS.get(marker._known_constant())
     return marker_of(text) if text else marker
 
 

@@ -394,7 +394,7 @@ def check_marker(place: Place, marker: str, placed: Optional[str] = None) -> Non
     """Refuses a text that is no marker. `placed` is what is read in its place, with each part where the text
     has it."""
     try:
-        _native.marker_truth(_native.encoded(placed or marker))
+        _native.marker_check(_native.encoded(placed or marker))
     except _native.Fault as fault:
         raise _refused_part(place, marker, fault) from None
 

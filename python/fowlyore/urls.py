@@ -34,7 +34,7 @@ def marker_in(url: str) -> Optional[str]:
 
 def _is_marker(text: str) -> bool:
     try:
-        _native.marker_truth(_native.encoded(text))
+        _native.marker_check(_native.encoded(text))
     except _native.Fault:
         return False
     return True

@@ -71,7 +71,8 @@ class Documented(unittest.TestCase):
 
 def functions_of(value):
     """What is written in the package of a function or of a class's methods and properties."""
-    found = [value] if inspect.isfunction(value) else vars(value).values()
+    kind = value if isinstance(value, type) else type(value)
+    found = [value] if inspect.isfunction(value) else vars(kind).values()
     for it in found:
         it = getattr(it, "fget", None) or getattr(it, "func", it)
         if inspect.isfunction(it) and it.__code__.co_filename.startswith(fowlyore.__path__[0]):

@@ -12,7 +12,7 @@ import unittest
 from fowlyore import InvalidMarker, Marker, SpecifierSet, _native, normal
 
 PYTHON = pathlib.Path(__file__).resolve().parents[1]
-# A marker whose tree is exponentially larger, so that reading it takes seconds, and half a gigabyte.
+# A marker whose tree is exponentially larger, so that making it takes seconds, and half a gigabyte.
 MANY = " or ".join(f"extra == 'a{it}' and extra == 'b{it}'" for it in range(20))
 # (a process that was started in the background ignores the signal)
 CODE = """
@@ -20,7 +20,7 @@ import signal, sys, fowlyore
 signal.signal(signal.SIGINT, signal.default_int_handler)
 print("began", flush=True)
 try:
-    fowlyore.Marker(sys.stdin.read())
+    fowlyore.Marker(sys.stdin.read()).is_true()
 except KeyboardInterrupt:
     print("interrupted", flush=True)
 """

@@ -27,7 +27,7 @@ def prototypes():
                 types += TEXT
             elif it.startswith("uint8_t *"):
                 types += ROOM
-            elif it.startswith("uint64_t"):
+            elif it.startswith("uint64_t") or it in ("size_t nodes", "size_t clauses"):
                 types.append(ctypes.c_uint64)
         yield name, TYPES[result], types
 

@@ -77,6 +77,8 @@ MADE = {
     "Tag": [lambda: Tag("py3", "none", "any")],
     "UndefinedComparison": [lambda: fowlyore.UndefinedComparison("why")],
     "UndefinedEnvironmentName": [lambda: error_of(Marker("extra == 'x'").evaluate, {"extra": "-"})],
+    "TooManyClauses": [lambda: error_of(lambda: Marker("os_name == 'nt' and extra == 'a'").negate(clauses=1))],
+    "TooManyNodes": [lambda: error_of(lambda: Marker("os_name == 'nt' or extra == 'a'").implies(Marker("extra == 'a'"), nodes=1))],
     "Version": [
         lambda: Version(" 1!2.0-RC.1+Local_1\n"), lambda: Version.from_parts(release=(1, 0), pre=("Beta", 2)),
     ],

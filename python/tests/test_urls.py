@@ -63,15 +63,15 @@ class Requirements(unittest.TestCase):
         self.assertEqual((line, len(found)), (f"foo @ {URL}", 1))
 
     def test_a_long_text_is_not_read_as_a_marker(self):
-        """A marker of many pairs of extras takes exponential time to read; a URL with one takes none."""
+        """A marker of many pairs of extras is long; a URL with one isn't read as a marker."""
         pairs = " or ".join(f"extra == 'a{it}' and extra == 'b{it}'" for it in range(10))
-        with mock.patch.object(_native, "marker_truth", side_effect=AssertionError):
+        with mock.patch.object(_native, "marker_check", side_effect=AssertionError):
             it, found = warned(Requirement, f"foo @ https://e.org/x.whl;{pairs}")
         self.assertEqual((it.url, found), (f"https://e.org/x.whl;{pairs}", []))
 
     def test_other_requirements_are_asked_nothing_more(self):
         """A marker is looked for in URLs with a `;` alone."""
-        with mock.patch.object(_native, "marker_truth", side_effect=AssertionError):
+        with mock.patch.object(_native, "marker_check", side_effect=AssertionError):
             for text in ("foo>=1 ; os_name == 'nt'", "foo @ https://e.org/x ; os_name == 'nt'", "foo"):
                 self.assertEqual(Requirement(text).name, "foo")
 

@@ -1,12 +1,17 @@
-/* The library's calls by number, and how each is made with texts, a limit and room for its answer. */
+/* The library's calls by number, and how each is made with texts, bounds and room for its answer. */
 
 #include "reqs.h"
 
 enum {
     CHECK, MATRIX, SAME, CONFLICTS, NORMAL, CHECK_JSON, MATRIX_JSON, SAME_JSON, CONFLICTS_JSON, NORMAL_JSON, VERSION, KEY,
-    ORDER, SPECIFIERS, TAKE, RANGES_DISJOINT, SUBSET, EMPTY, REQUIREMENT, MARKER, MARKER_KEY, TRUTH, DISJOINT, IMPLIES,
+    ORDER, SPECIFIERS, TAKE, RANGES_DISJOINT, SUBSET, EMPTY, REQUIREMENT, CHECKED, MARKER, MARKER_KEY, TRUTH, DISJOINT, IMPLIES,
     NEGATED, PYTHON, EXTRAS, HOLD, ABI,
     CALLS
+};
+
+/* How many cases of a package, nodes, clauses and cases in all a call may make; those that it has no bound of don't matter. */
+struct bounds {
+    uint64_t limit, nodes, clauses, cases;
 };
 
 static reqs_reply number(int64_t value) {
@@ -17,28 +22,29 @@ static reqs_reply number(int64_t value) {
 #define T(n) text[n], (size_t)size[n]
 
 /* Makes a call. Of a call that gives a number that is the length; no other number is a call. */
-static reqs_reply made(uint64_t which, const uint8_t *const *text, const uint64_t *size, uint64_t limit, uint8_t *out, size_t room) {
+static reqs_reply made(uint64_t which, const uint8_t *const *text, const uint64_t *size, const struct bounds *most, uint8_t *out,
+                       size_t room) {
     switch (which) {
     case CHECK:
         return reqs_check(T(0), T(1), T(2), T(3), out, room);
     case MATRIX:
-        return reqs_matrix(T(0), T(1), T(2), T(3), limit, out, room);
+        return reqs_matrix(T(0), T(1), T(2), T(3), most->limit, most->nodes, most->cases, out, room);
     case SAME:
-        return reqs_same(T(0), T(1), limit, out, room);
+        return reqs_same(T(0), T(1), most->limit, most->nodes, most->clauses, most->cases, out, room);
     case CONFLICTS:
-        return reqs_conflicts(T(0), limit, out, room);
+        return reqs_conflicts(T(0), most->limit, most->nodes, most->cases, out, room);
     case NORMAL:
-        return reqs_normal(T(0), out, room);
+        return reqs_normal(T(0), most->nodes, most->clauses, out, room);
     case CHECK_JSON:
         return reqs_check_json(T(0), T(1), T(2), T(3), out, room);
     case MATRIX_JSON:
-        return reqs_matrix_json(T(0), T(1), T(2), T(3), limit, out, room);
+        return reqs_matrix_json(T(0), T(1), T(2), T(3), most->limit, most->nodes, most->cases, out, room);
     case SAME_JSON:
-        return reqs_same_json(T(0), T(1), limit, out, room);
+        return reqs_same_json(T(0), T(1), most->limit, most->nodes, most->clauses, most->cases, out, room);
     case CONFLICTS_JSON:
-        return reqs_conflicts_json(T(0), limit, out, room);
+        return reqs_conflicts_json(T(0), most->limit, most->nodes, most->cases, out, room);
     case NORMAL_JSON:
-        return reqs_normal_json(T(0), out, room);
+        return reqs_normal_json(T(0), most->nodes, most->clauses, out, room);
     case VERSION:
         return reqs_version(T(0), out, room);
     case KEY:
@@ -57,22 +63,24 @@ static reqs_reply made(uint64_t which, const uint8_t *const *text, const uint64_
         return reqs_specifiers_empty(T(0), out, room);
     case REQUIREMENT:
         return reqs_requirement(T(0), out, room);
+    case CHECKED:
+        return reqs_marker_check(T(0), out, room);
     case MARKER:
-        return reqs_marker(T(0), out, room);
+        return reqs_marker(T(0), most->nodes, most->clauses, out, room);
     case MARKER_KEY:
-        return reqs_marker_key(T(0), out, room);
+        return reqs_marker_key(T(0), most->nodes, out, room);
     case TRUTH:
-        return reqs_marker_truth(T(0), out, room);
+        return reqs_marker_truth(T(0), most->nodes, out, room);
     case DISJOINT:
-        return reqs_markers_disjoint(T(0), T(1), out, room);
+        return reqs_markers_disjoint(T(0), T(1), most->nodes, out, room);
     case IMPLIES:
-        return reqs_marker_implies(T(0), T(1), out, room);
+        return reqs_marker_implies(T(0), T(1), most->nodes, out, room);
     case NEGATED:
-        return reqs_marker_negated(T(0), out, room);
+        return reqs_marker_negated(T(0), most->nodes, most->clauses, out, room);
     case PYTHON:
-        return reqs_marker_simplify_python(T(0), T(1), T(2), out, room);
+        return reqs_marker_simplify_python(T(0), T(1), T(2), most->nodes, most->clauses, out, room);
     case EXTRAS:
-        return reqs_marker_simplify_extras(T(0), T(1), out, room);
+        return reqs_marker_simplify_extras(T(0), T(1), most->nodes, most->clauses, out, room);
     case HOLD:
         return reqs_markers_hold(T(0), T(1), T(2), out, room);
     case ABI:

@@ -15,6 +15,7 @@
 
 #define THREADS 4
 #define TURNS 300
+#define BOUNDS REQS_NO_BOUND, REQS_NO_BOUND
 
 static int failed;
 
@@ -90,7 +91,7 @@ static struct text environment(int depth) {
 
 static void marker(const char *what, struct text text, unsigned wanted) {
     static uint8_t out[8 << 20];
-    reqs_reply reply = reqs_marker(text.bytes, text.length, out, sizeof out);
+    reqs_reply reply = reqs_marker(text.bytes, text.length, BOUNDS, out, sizeof out);
     if (reply.status != wanted) {
         fails(what, reply.status);
     }
@@ -135,19 +136,22 @@ static void commands(int count) {
     where.length += one.length;
     add(&where, "]");
     answered("check", reqs_check(list.bytes, list.length, one.bytes, one.length, candidates, 4, asked, 3, out, sizeof out));
-    answered("matrix", reqs_matrix(list.bytes, list.length, where.bytes, where.length, candidates, 4, asked, 3, 4096, out,
-                                   sizeof out));
-    answered("same", reqs_same(list.bytes, list.length, list.bytes, list.length, 4096, out, sizeof out));
-    answered("normal", reqs_normal(list.bytes, list.length, out, sizeof out));
+    answered("matrix", reqs_matrix(list.bytes, list.length, where.bytes, where.length, candidates, 4, asked, 3, 4096, REQS_NO_BOUND,
+                                   REQS_NO_BOUND, out, sizeof out));
+    answered("same", reqs_same(list.bytes, list.length, list.bytes, list.length, 4096, REQS_NO_BOUND, REQS_NO_BOUND,
+                               REQS_NO_BOUND, out, sizeof out));
+    answered("normal", reqs_normal(list.bytes, list.length, REQS_NO_BOUND, REQS_NO_BOUND, out, sizeof out));
     answered("check as JSON", reqs_check_json(list.bytes, list.length, one.bytes, one.length, candidates, 4, asked, 3, out,
                                               sizeof out));
-    answered("matrix as JSON", reqs_matrix_json(list.bytes, list.length, where.bytes, where.length, candidates, 4, asked, 3, 4096, out,
-                                                sizeof out));
-    answered("same as JSON", reqs_same_json(list.bytes, list.length, list.bytes, list.length, 4096, out, sizeof out));
-    answered("conflicts as JSON", reqs_conflicts_json(list.bytes, list.length, 4096, out, sizeof out));
-    answered("normal as JSON", reqs_normal_json(list.bytes, list.length, out, sizeof out));
+    answered("matrix as JSON", reqs_matrix_json(list.bytes, list.length, where.bytes, where.length, candidates, 4, asked, 3, 4096,
+                                                REQS_NO_BOUND, REQS_NO_BOUND, out, sizeof out));
+    answered("same as JSON", reqs_same_json(list.bytes, list.length, list.bytes, list.length, 4096, REQS_NO_BOUND,
+                                            REQS_NO_BOUND, REQS_NO_BOUND, out, sizeof out));
+    answered("conflicts as JSON", reqs_conflicts_json(list.bytes, list.length, 4096, REQS_NO_BOUND, REQS_NO_BOUND, out,
+                                                      sizeof out));
+    answered("normal as JSON", reqs_normal_json(list.bytes, list.length, REQS_NO_BOUND, REQS_NO_BOUND, out, sizeof out));
     answered("requirement", reqs_requirement(list.bytes, list.length, out, sizeof out));
-    reqs_reply reply = reqs_conflicts(list.bytes, list.length, 4096, out, sizeof out);
+    reqs_reply reply = reqs_conflicts(list.bytes, list.length, 4096, REQS_NO_BOUND, REQS_NO_BOUND, out, sizeof out);
     if (reply.status != REQS_ANSWERED || reply.length != 0) {
         fails("conflicts", reply.status);
     }
@@ -179,13 +183,13 @@ static void meanings(int most, int printed) {
     static uint8_t out[1 << 20];
     struct text all = extras(most), some = extras(most / 5), few = extras(printed), list = exclusions(most / 5);
     const uint8_t *lower = (const uint8_t *)"3.8", *upper = (const uint8_t *)"3.9", *absent = (const uint8_t *)"y\n";
-    answered("key", reqs_marker_key(all.bytes, all.length, out, sizeof out));
-    says("truth", reqs_marker_truth(all.bytes, all.length, out, sizeof out), out, '-');
-    says("disjoint", reqs_markers_disjoint(all.bytes, all.length, some.bytes, some.length, out, sizeof out), out, '0');
-    says("implies", reqs_marker_implies(some.bytes, some.length, all.bytes, all.length, out, sizeof out), out, '1');
-    answered("negated", reqs_marker_negated(few.bytes, few.length, out, sizeof out));
-    answered("python", reqs_marker_simplify_python(few.bytes, few.length, lower, 3, upper, 3, out, sizeof out));
-    answered("extras", reqs_marker_simplify_extras(few.bytes, few.length, absent, 2, out, sizeof out));
+    answered("key", reqs_marker_key(all.bytes, all.length, REQS_NO_BOUND, out, sizeof out));
+    says("truth", reqs_marker_truth(all.bytes, all.length, REQS_NO_BOUND, out, sizeof out), out, '-');
+    says("disjoint", reqs_markers_disjoint(all.bytes, all.length, some.bytes, some.length, REQS_NO_BOUND, out, sizeof out), out, '0');
+    says("implies", reqs_marker_implies(some.bytes, some.length, all.bytes, all.length, REQS_NO_BOUND, out, sizeof out), out, '1');
+    answered("negated", reqs_marker_negated(few.bytes, few.length, BOUNDS, out, sizeof out));
+    answered("python", reqs_marker_simplify_python(few.bytes, few.length, lower, 3, upper, 3, BOUNDS, out, sizeof out));
+    answered("extras", reqs_marker_simplify_extras(few.bytes, few.length, absent, 2, BOUNDS, out, sizeof out));
     says("ranges disjoint", reqs_specifiers_disjoint(list.bytes, list.length, list.bytes, list.length, out, sizeof out), out,
          '0');
     says("subset", reqs_specifiers_subset(list.bytes, list.length, list.bytes, list.length, out, sizeof out), out, '1');
@@ -226,7 +230,7 @@ static void *turns(void *number) {
             fails("threads: a version", reply.status);
         }
         n = snprintf(text, sizeof text, "'a%d.%d'==os_name", i, *(int *)number);
-        reply = reqs_marker((uint8_t *)text, (size_t)n, out, sizeof out);
+        reply = reqs_marker((uint8_t *)text, (size_t)n, BOUNDS, out, sizeof out);
         n = snprintf(wanted, sizeof wanted, "os_name == 'a%d.%d'", i, *(int *)number);
         if (reply.status != REQS_ANSWERED || reply.length != (size_t)n || memcmp(out, wanted, reply.length) != 0) {
             fails("threads: a marker", reply.status);

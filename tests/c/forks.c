@@ -22,6 +22,7 @@
 
 #define TEXT(text) (const uint8_t *)(text), sizeof(text) - 1
 #define OUT out, ROOM
+#define BOUNDS REQS_NO_BOUND, REQS_NO_BOUND
 
 static const char ENVIRONMENT[] =
     "{\"implementation_name\":\"cpython\",\"implementation_version\":\"3.11.4\",\"os_name\":\"posix\","
@@ -41,19 +42,19 @@ static reqs_reply check(uint8_t *out) {
 }
 
 static reqs_reply matrix(uint8_t *out) {
-    return reqs_matrix(TEXT(REQUIREMENTS), TEXT(environments), TEXT("a 1\na 2\n"), TEXT("x"), 4096, OUT);
+    return reqs_matrix(TEXT(REQUIREMENTS), TEXT(environments), TEXT("a 1\na 2\n"), TEXT("x"), 4096, 1000, 1000, OUT);
 }
 
 static reqs_reply same(uint8_t *out) {
-    return reqs_same(TEXT(REQUIREMENTS), TEXT("a>2\n"), 4096, OUT);
+    return reqs_same(TEXT(REQUIREMENTS), TEXT("a>2\n"), 4096, 1000, 100, 1000, OUT);
 }
 
 static reqs_reply conflicts(uint8_t *out) {
-    return reqs_conflicts(TEXT("a<1\na>2\n"), 4096, OUT);
+    return reqs_conflicts(TEXT("a<1\na>2\n"), 4096, 1000, 1000, OUT);
 }
 
 static reqs_reply normal(uint8_t *out) {
-    return reqs_normal(TEXT(REQUIREMENTS), OUT);
+    return reqs_normal(TEXT(REQUIREMENTS), 1000, 100, OUT);
 }
 
 static reqs_reply check_json(uint8_t *out) {
@@ -61,19 +62,19 @@ static reqs_reply check_json(uint8_t *out) {
 }
 
 static reqs_reply matrix_json(uint8_t *out) {
-    return reqs_matrix_json(TEXT(REQUIREMENTS), TEXT(environments), TEXT("a 1\na 2\n"), TEXT("x"), 4096, OUT);
+    return reqs_matrix_json(TEXT(REQUIREMENTS), TEXT(environments), TEXT("a 1\na 2\n"), TEXT("x"), 4096, 1000, 1000, OUT);
 }
 
 static reqs_reply same_json(uint8_t *out) {
-    return reqs_same_json(TEXT("a>2\n"), TEXT("a>2\nb; os_name == 'nt'\n"), 4096, OUT);
+    return reqs_same_json(TEXT("a>2\n"), TEXT("a>2\nb; os_name == 'nt'\n"), 4096, 1000, 100, 1000, OUT);
 }
 
 static reqs_reply conflicts_json(uint8_t *out) {
-    return reqs_conflicts_json(TEXT("a<1\na>2\n"), 4096, OUT);
+    return reqs_conflicts_json(TEXT("a<1\na>2\n"), 4096, 1000, 1000, OUT);
 }
 
 static reqs_reply normal_json(uint8_t *out) {
-    return reqs_normal_json(TEXT("A >= 1.0 ; os_name=='nt'\n"), OUT);
+    return reqs_normal_json(TEXT("A >= 1.0 ; os_name=='nt'\n"), 1000, 100, OUT);
 }
 
 static reqs_reply version(uint8_t *out) {
@@ -116,51 +117,59 @@ static reqs_reply requirement(uint8_t *out) {
     return reqs_requirement(TEXT("A[b,c] >= 1, < 2 ; " MARKER), OUT);
 }
 
+static reqs_reply marker_check(uint8_t *out) {
+    return reqs_marker_check(TEXT(MARKER), OUT);
+}
+
 static reqs_reply marker(uint8_t *out) {
-    return reqs_marker(TEXT(MARKER), OUT);
+    return reqs_marker(TEXT(MARKER), BOUNDS, OUT);
 }
 
 static reqs_reply no_marker(uint8_t *out) {
-    return reqs_marker(TEXT("os_name == 'nt' or"), OUT);
+    return reqs_marker(TEXT("os_name == 'nt' or"), BOUNDS, OUT);
+}
+
+static reqs_reply too_many_nodes(uint8_t *out) {
+    return reqs_marker(TEXT(MARKER), 1, REQS_NO_BOUND, OUT);
 }
 
 static reqs_reply marker_key(uint8_t *out) {
-    return reqs_marker_key(TEXT(MARKER), OUT);
+    return reqs_marker_key(TEXT(MARKER), REQS_NO_BOUND, OUT);
 }
 
 static reqs_reply marker_truth(uint8_t *out) {
-    return reqs_marker_truth(TEXT(MARKER), OUT);
+    return reqs_marker_truth(TEXT(MARKER), REQS_NO_BOUND, OUT);
 }
 
 static reqs_reply markers_disjoint(uint8_t *out) {
-    return reqs_markers_disjoint(TEXT(MARKER), TEXT("os_name == 'posix' and extra != 'a'"), OUT);
+    return reqs_markers_disjoint(TEXT(MARKER), TEXT("os_name == 'posix' and extra != 'a'"), REQS_NO_BOUND, OUT);
 }
 
 static reqs_reply marker_implies(uint8_t *out) {
-    return reqs_marker_implies(TEXT("os_name == 'nt'"), TEXT(MARKER), OUT);
+    return reqs_marker_implies(TEXT("os_name == 'nt'"), TEXT(MARKER), REQS_NO_BOUND, OUT);
 }
 
 static reqs_reply marker_negated(uint8_t *out) {
-    return reqs_marker_negated(TEXT(MARKER), OUT);
+    return reqs_marker_negated(TEXT(MARKER), BOUNDS, OUT);
 }
 
 static reqs_reply marker_simplify_python(uint8_t *out) {
-    return reqs_marker_simplify_python(TEXT(MARKER), TEXT("3.7"), TEXT("3.9"), OUT);
+    return reqs_marker_simplify_python(TEXT(MARKER), TEXT("3.7"), TEXT("3.9"), BOUNDS, OUT);
 }
 
 static reqs_reply marker_simplify_extras(uint8_t *out) {
-    return reqs_marker_simplify_extras(TEXT(MARKER), TEXT("a\n"), OUT);
+    return reqs_marker_simplify_extras(TEXT(MARKER), TEXT("a\n"), BOUNDS, OUT);
 }
 
 static reqs_reply markers_hold(uint8_t *out) {
     return reqs_markers_hold(TEXT(MARKER "\nx\n"), TEXT(ENVIRONMENT), TEXT("a\n"), OUT);
 }
 
-/* Each call of the header that takes memory, and two that are refused. */
+/* Each call of the header that takes memory, and three that are refused. */
 static reqs_reply (*const CALLS[])(uint8_t *) = {
     check, matrix, same, conflicts, normal, check_json, matrix_json, same_json, conflicts_json, normal_json, version,
     no_version, version_key, version_order, specifiers, specifiers_take, specifiers_disjoint, specifiers_subset,
-    specifiers_empty, requirement, marker, no_marker, marker_key, marker_truth, markers_disjoint, marker_implies,
+    specifiers_empty, requirement, marker_check, marker, no_marker, too_many_nodes, marker_key, marker_truth, markers_disjoint, marker_implies,
     marker_negated, marker_simplify_python, marker_simplify_extras, markers_hold};
 #define COUNT (sizeof CALLS / sizeof *CALLS)
 

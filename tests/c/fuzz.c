@@ -23,15 +23,21 @@
 #define PAGE 4096
 #define SPACE 16384
 #define MOST_REQUESTS 4096
-/* No text grows longer than this, nor a marker than that: what a marker takes grows exponentially at worst. */
+/* No text grows longer than this, nor a marker than that: what is printed of one is read again without a bound. */
 #define MOST_TEXT 700
 #define MOST_MARKER 480
 #define MOST_LIMIT 64
+#define MOST_NODES 20000
+#define MOST_CLAUSES 2000
+#define MOST_CASES 256
+#define HEAD (7 * sizeof(uint64_t))
 #define HANGS 120
 #define WAS 0xA5
 
 struct request {
-    uint64_t which, limit, room, count, size[TEXTS];
+    uint64_t which;
+    struct bounds most;
+    uint64_t room, count, size[TEXTS];
     const uint8_t *text[TEXTS];
 };
 
@@ -86,9 +92,9 @@ static void read_requests(const char *path) {
     }
     while (at < end && request_count < MOST_REQUESTS) {
         struct request *it = &requests[request_count++];
-        memcpy(it, at, 4 * sizeof(uint64_t));
-        memcpy(it->size, at + 4 * sizeof(uint64_t), it->count * sizeof(uint64_t));
-        at += (4 + it->count) * sizeof(uint64_t);
+        memcpy(it, at, HEAD);
+        memcpy(it->size, at + HEAD, it->count * sizeof(uint64_t));
+        at += HEAD + it->count * sizeof(uint64_t);
         for (uint64_t i = 0; i < it->count; i++) {
             it->text[i] = at;
             at += it->size[i];
@@ -100,8 +106,8 @@ static void read_requests(const char *path) {
 /* Puts the request where it is found if the process ends. */
 static void keep_current(const struct request *it) {
     uint8_t *at = current;
-    memcpy(at, it, 4 * sizeof(uint64_t));
-    at += 4 * sizeof(uint64_t);
+    memcpy(at, it, HEAD);
+    at += HEAD;
     memcpy(at, it->size, it->count * sizeof(uint64_t));
     at += it->count * sizeof(uint64_t);
     for (uint64_t i = 0; i < it->count; i++) {
@@ -201,7 +207,7 @@ static reqs_reply ask(struct request it, size_t room, uint8_t **out) {
     *out = fenced_out + SPACE - room;
     memset(fenced_out, WAS, SPACE);
     alarm(HANGS);
-    reqs_reply reply = made(it.which, it.text, it.size, it.limit, *out, room);
+    reqs_reply reply = made(it.which, it.text, it.size, &it.most, *out, room);
     alarm(0);
     int64_t length = (int64_t)reply.length;
     for (uint8_t *at = fenced_out; at < fenced_out + SPACE; at++) {
@@ -222,7 +228,7 @@ static void ask_again(const struct request *it, const uint8_t *answer, size_t le
         return;
     }
     memcpy(kept, answer, length);
-    struct request back = {.which = it->which, .count = 1, .size = {length}, .text = {kept}};
+    struct request back = {.which = it->which, .most = {0, REQS_NO_BOUND, REQS_NO_BOUND, 0}, .count = 1, .size = {length}, .text = {kept}};
     uint8_t *out;
     reqs_reply reply = ask(back, SPACE, &out);
     if (reply.status != REQS_ANSWERED || reply.length != length || memcmp(out, kept, length) != 0) {
@@ -329,9 +335,9 @@ static size_t changed(uint8_t *text, size_t size, size_t most) {
     }
 }
 
-/* Whether a call reads markers alone, of which a text takes exponential time at worst. */
+/* Whether a call reads markers alone. */
 static int is_of_markers(uint64_t which) {
-    return which >= MARKER && which <= HOLD;
+    return which >= CHECKED && which <= HOLD;
 }
 
 /* A request of the corpus with changed texts. */
@@ -339,7 +345,7 @@ static void fuzzed(void) {
     static uint8_t texts[TEXTS][MOST_TEXT];
     struct request it = requests[draw(request_count)];
     size_t most = is_of_markers(it.which) ? MOST_MARKER : MOST_TEXT;
-    it.limit = draw(MOST_LIMIT);
+    it.most = (struct bounds){draw(MOST_LIMIT), draw(MOST_NODES), draw(MOST_CLAUSES), draw(MOST_CASES)};
     for (uint64_t i = 0; i < it.count; i++) {
         it.size[i] = it.size[i] < most ? it.size[i] : most;
         memcpy(texts[i], it.text[i], it.size[i]);

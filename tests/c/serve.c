@@ -1,7 +1,7 @@
 /* Makes the calls that it is told on standard input, one after another, and tells on standard output how each ended.
  *
- * A request is the number of a call, a limit, the room for the answer, how many texts there are and their lengths, each
- * 8 bytes in the machine's order, and then the texts. A reply is what the call returned (of reqs_reply the six members,
+ * A request is the number of a call, how many cases of a package, nodes, clauses and cases in all it may make, the room for the
+ * answer, how many texts there are and their lengths, each 8 bytes in the machine's order, and then the texts. A reply is what the call returned (of reqs_reply the six members,
  * else one number and five zeros), by how many bytes the heap has grown, whether a byte behind the room was written, and
  * the room. It takes no memory of its own. */
 
@@ -52,14 +52,14 @@ int main(void) {
         free(taken);
     }
     for (;;) {
-        uint64_t head[4];
+        uint64_t head[7];
         take(head, sizeof head);
-        if (head[0] >= CALLS || head[2] > ROOM || head[3] > 4) {
+        if (head[0] >= CALLS || head[5] > ROOM || head[6] > 4) {
             return 4;
         }
-        take(size, head[3] * sizeof *size);
+        take(size, head[6] * sizeof *size);
         uint8_t *end = texts;
-        for (uint64_t i = 0; i < head[3]; i++) {
+        for (uint64_t i = 0; i < head[6]; i++) {
             if (size[i] > (uint64_t)(texts + MOST - end)) {
                 return 4;
             }
@@ -67,10 +67,11 @@ int main(void) {
             take(end, size[i]);
             end += size[i];
         }
-        size_t room = (size_t)head[2];
+        struct bounds most = {head[1], head[2], head[3], head[4]};
+        size_t room = (size_t)head[5];
         memcpy(out, was, room + BEHIND);
         size_t before = mallinfo2().uordblks;
-        reqs_reply reply = made(head[0], text, size, head[1], out, room);
+        reqs_reply reply = made(head[0], text, size, &most, out, room);
         uint64_t grown = mallinfo2().uordblks - before;
         uint64_t told[8] = {reply.status, reply.input, reply.length, reply.line, reply.start, reply.len, grown,
                             memcmp(out + room, was + room, BEHIND) != 0};

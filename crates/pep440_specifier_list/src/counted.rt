@@ -48,6 +48,13 @@ impl CountedSpecifiers {
         asking.answer
     }
 
+    /// Returns the list whose members are tested.
+    pub fn specifiers(&self) -> &VersionSpecifiers
+        ensures { result.now ≡ self.now.members }
+    {
+        &self.list
+    }
+
     /// Returns how many members were tested so far, up to `u64::MAX`.
     pub fn tests(&self) -> u64
         ensures { result ≡ self.now.tests }

@@ -125,18 +125,19 @@ fn takes(
             sets::of_range(answer, kind, range, Some(candidate))
         }
         _ => {
-            let mut list = CountedSpecifiers::new(list.try_clone(alloc)?);
-            counted(alloc, answer, &mut list, candidate)
+            let mut counting = CountedSpecifiers::new(list.try_clone(alloc)?);
+            counted(alloc, answer, &mut counting, list, candidate)
         }
     }
 }
 
 /// Answers whether a counted list accepts a version, tested twice, and how many members were tested by
-/// then.
+/// then; and whether its members are still those of the list.
 fn counted(
     alloc: Global,
     answer: &mut String,
     list: &mut CountedSpecifiers,
+    own: &VersionSpecifiers,
     candidate: &Version,
 ) -> Told {
     let before = list.tests();
@@ -144,6 +145,9 @@ fn counted(
     let once = list.tests();
     let again = list.contains_counted(alloc, candidate)?;
     let twice = list.tests();
+    if list.specifiers() != own {
+        answer.push_str("other members, ")?;
+    }
     write!(answer, "{before} asked, {taken} {once}, {again} {twice}")
 }
 

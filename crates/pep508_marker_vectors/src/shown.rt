@@ -89,6 +89,14 @@ pub fn order(
     order_beside(alloc, answer, interner, left, right)
 }
 
+fn sign(order: Ordering) -> &'static str {
+    match order {
+        Ordering::Less => "<",
+        Ordering::Equal => "=",
+        Ordering::Greater => ">",
+    }
+}
+
 fn order_beside(
     alloc: Global,
     answer: &mut String,
@@ -101,10 +109,10 @@ fn order_beside(
     let mut other_interner = Interner::new(alloc);
     let right = read(alloc, answer, &mut other_interner, right)?;
     let left = MarkerTreeRef::new(alloc, interner, left);
-    let order = match left.cmp(&MarkerTreeRef::new(alloc, &other_interner, right)) {
-        Ordering::Less => "<",
-        Ordering::Equal => "=",
-        Ordering::Greater => ">",
-    };
-    said(answer, order)
+    let right = MarkerTreeRef::new(alloc, &other_interner, right);
+    let order = left.try_cmp(&right)?;
+    if order != left.cmp(&right) {
+        return said(answer, "two orders");
+    }
+    said(answer, sign(order))
 }

@@ -4,3 +4,4 @@ pub mod Walking
 mod Printed
 mod Ties
 mod Sound
+mod Descending

@@ -5,3 +5,4 @@ pub mod TreeText
 pub mod Lent
 pub mod Sides
 pub mod Ties
+pub mod Besides

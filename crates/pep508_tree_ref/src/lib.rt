@@ -5,6 +5,7 @@
 mod end;
 mod known;
 pub mod laws;
+mod order_walk;
 mod tree_order;
 mod tree_ref;
 

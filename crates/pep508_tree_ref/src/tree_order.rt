@@ -1,4 +1,4 @@
-//! The order of two trees by their diagrams.
+//! The order of two trees by their diagrams, found by recursion, which can do without memory.
 
 ghost use Rattle.std.specs.Prelude.{◌≡◌, option_map};
 ghost use Rattle.std.specs.List.{AllByRecursion, slice_get};
@@ -16,7 +16,8 @@ use std::alloc::Global;
 use std::cmp::Ordering;
 use std::collections::BTreeSet;
 
-/// Compares two trees, each in its own interner.
+/// Compares two trees, each in its own interner, by recursion: for `cmp`, where memory for the list of
+/// `try_cmp_trees` is refused.
 pub(crate) fn cmp_trees(
     alloc: Global,
     tree: MarkerTree,
@@ -34,7 +35,7 @@ pub(crate) fn cmp_trees(
 }
 
 /// Compares the ends of two trees' edges, by the edges' place.
-fn cmp_ends_at(
+pub(crate) fn cmp_ends_at(
     tree: MarkerTree,
     interner: &Interner,
     other: MarkerTree,

@@ -1,11 +1,15 @@
 //! Marker trees with their interners.
 //!
 //! `MarkerTreeRef` is `Copy` and so has no model; that its tree belongs to its interner is a fact next to
-//! its fields, and `tree_in` says what contracts see. Its equality is that of its order. A comparison
-//! remembers the pairs of nodes that it found equal; where memory for them is refused it walks them again,
-//! and the result is the same. Whether two borrow one interner cannot be told, since `==` has to follow
-//! from the values, so trees of one name are walked as any two. The prover does not cover a function that
-//! copies one, nor one that copies a view; they are borrowed.
+//! its fields, and `tree_in` says what contracts see. Its equality is that of its order. Whether two borrow
+//! one interner cannot be told, since `==` has to follow from the values, so trees of one name are walked as
+//! any two. The prover does not cover a function that copies one, nor one that copies a view; they are
+//! borrowed.
+//!
+//! A comparison is a walk, whose way back is a list. It remembers the pairs of nodes that it found equal;
+//! where memory for them is refused it walks them again. `==` and `cmp` cannot report that memory for the
+//! list is refused, so they compare by recursion then, with the same result. A walk without both isn't
+//! known: many paths lead to one node, and which of them is walked has to be kept somewhere.
 //!
 //! The text is made while it is printed, by the allocator that `new` was given: `new` allocates nothing,
 //! and lack of memory while printing is `fmt::Error`. A tree that never holds prints its text, which tools
@@ -13,6 +17,7 @@
 
 ghost use Rattle.pep508_tree.specs.Meaning.{IsTree};
 
+use crate::order_walk::try_cmp_trees;
 use crate::tree_order::cmp_trees;
 use pep508_marker_display::MarkerTreeText;
 use pep508_tree::{Interner, MarkerTree};
@@ -25,10 +30,12 @@ use std::fmt;
 /// with the interner's nodes.
 ///
 /// Two of them are equal exactly where their trees mean the same (`laws::equal_trees_mean_the_same`). A
-/// comparison ends at the first difference. It takes memory for the pairs of nodes that it found equal, so
-/// that it walks each node once or twice, in O(n log n) steps for n nodes; where memory runs out, a pair is
-/// walked again for each path that leads to it. Trees of one interner are compared in constant time by the
-/// `==` of `MarkerTree`.
+/// comparison ends at the first difference. It takes memory for the way back to the roots, and for the pairs
+/// of nodes that it found equal, so that it walks each node once or twice, in O(n log n) steps for n nodes.
+/// Where memory for pairs is refused, a pair is walked again for each path that leads to it. Only where
+/// memory for the way back is refused, `==`, `cmp` and `partial_cmp` recurse, as deep as the variables on a
+/// path; `try_cmp` reports it. Trees of one interner are compared in constant time by the `==` of
+/// `MarkerTree`.
 ///
 /// It prints as the tree's text, `true` where the tree always holds. The text is made while it is printed,
 /// and where memory for it runs out, printing fails with `fmt::Error`.
@@ -47,7 +54,7 @@ impl<'a> MarkerTreeRef<'a> {
     ghost use Rattle.pep508_diagram.specs.Shortened.{HasShortVersions};
     ghost use Rattle.pep508_marker_text_laws.specs.MarkerText.{marker_text};
     ghost use Rattle.pep508_tree.specs.Meaning.{IsTree};
-    ghost use Rattle.pep508_tree_ref.specs.Lent.{tree_in};
+    ghost use Rattle.pep508_tree_ref.specs.Lent.{tree_in, tree_ref_cmp};
     ghost use Rattle.pep508_tree_ref.specs.TreeIn.{diagram_in};
 
     /// Returns a tree with its interner, and the allocator by which it is printed or compared. Takes no
@@ -70,6 +77,20 @@ impl<'a> MarkerTreeRef<'a> {
             option_map string_bytes text ≡ marker_text (diagram_in (tree_in self.now))) }
     {
         self.tree.try_to_string(self.alloc, self.interner)
+    }
+
+    /// Compares two trees as `cmp` does. The only error is lack of memory for the way back to the roots, of
+    /// the allocator of `new`. No recursion, however deep the trees are.
+    pub fn try_cmp(&self, other: &MarkerTreeRef) -> Result<Ordering, AllocError>
+        ensures { IfOk result (λ order. order ≡ tree_ref_cmp self.now other.now) }
+    {
+        try_cmp_trees(
+            self.alloc,
+            self.tree,
+            self.interner,
+            other.tree,
+            other.interner,
+        )
     }
 
     /// Shows that the tree has no needless question, and each version is in its shortest spelling. Does
@@ -117,13 +138,16 @@ impl Ord for MarkerTreeRef<'_> {
     ghost matches_eq = { λ x y. refl };
 
     fn cmp(&self, other: &Self) -> Ordering {
-        cmp_trees(
-            self.alloc,
-            self.tree,
-            self.interner,
-            other.tree,
-            other.interner,
-        )
+        match self.try_cmp(other) {
+            Ok(order) => order,
+            Err(_) => cmp_trees(
+                self.alloc,
+                self.tree,
+                self.interner,
+                other.tree,
+                other.interner,
+            ),
+        }
     }
 }
 

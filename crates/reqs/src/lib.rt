@@ -17,7 +17,9 @@
 //! ```
 
 pub use pep508_url::Vars;
-pub use reqs_answers::{check, laws, matrix};
-pub use reqs_io_faults::{Input, JsonShape, RefusedCause, RefusedWord, RunFault, Status};
+pub use reqs_answers::{check, laws, matrix, matrix_within};
+pub use reqs_io_faults::{
+    Bounds, Excess, Input, JsonShape, RefusedCause, RefusedWord, RunFault, Status,
+};
 pub use reqs_json::Format;
-pub use reqs_lists::{conflicts, normal, same};
+pub use reqs_lists::{conflicts, conflicts_within, normal, normal_within, same, same_within};

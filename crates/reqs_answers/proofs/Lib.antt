@@ -1,4 +1,4 @@
-pub mod Answered
+pub mod Selected
 pub mod Whole
 pub mod Numbered
 pub mod Formats

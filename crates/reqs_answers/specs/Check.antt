@@ -5,6 +5,7 @@ use Rattle.pep440_version.specs.Changes.{is_prerelease}
 use Rattle.pep508_url.specs.Vars.{Variables}
 use Rattle.pep508_environment.specs.Environment.{EnvironmentRecord}
 use Rattle.pep508_evaluation.specs.Valuations.{valuation_of}
+use Rattle.reqtable_candidates.specs.declared.candidates.Candidate.{Candidate}
 use Rattle.reqtable_answer.specs.Answer.{Admits}
 use Rattle.reqtable_requirements.specs.Asks.{asks_of}
 use Rattle.reqs_json.specs.declared.format.Format.{Format}
@@ -13,7 +14,7 @@ use Rattle.reqs_io_faults.specs.declared.fault.Input.TheVariants.{First, Second,
 use Rattle.reqs_io_faults.specs.declared.fault.RunFault.{RunFault}
 use Rattle.reqs_io_faults.specs.declared.fault.Status.{Status}
 use Rattle.reqs_io_faults.specs.declared.fault.Status.TheVariants.{Answered}
-use Rattle.reqs_io_faults.specs.Faults.{Cause, IsOfTexts, Refuses}
+use Rattle.reqs_io_faults.specs.Faults.{Cause, IsOfTexts, IsPlain, Refuses}
 use Rattle.reqs_io_faults.specs.Inputs.{environment_from}
 use Rattle.reqs_io_faults.specs.Ends.{of_input, Runs}
 use Rattle.reqs_answers.specs.Texts.{ReadTexts, texts_of}
@@ -39,6 +40,12 @@ abbrev pub AnswersText : {Y : Type 0} → (RunFault → Type 0) → Format → R
     → Type 0
 AnswersText IsOne format (Ok text) texts = IsCheckText format texts (string_bytes text)
 AnswersText IsOne format (Err fault) texts = Refuses IsOne fault texts
+
+-- what is answered to the candidates of a text that is read; or the text is refused for this fault
+abbrev pub AnswersRead : {X : Type 0} → (List Candidate → X → Type 0) → Result X RunFault
+    → Result (List Candidate) Cause → Type 0
+AnswersRead Answers (Ok x) reading = (read : List Candidate) × (reading ≡ Ok read) × Answers read x
+AnswersRead Answers (Err fault) reading = Refuses IsPlain fault reading
 
 abbrev pub check_texts : Variables → List (List ℕ) → List (List ℕ) → CheckTexts
 check_texts vars extras inputs =

@@ -1,5 +1,6 @@
 -- The command `matrix`, from the bytes of its inputs to the bytes of its answers.
-use Rattle.std.specs.Prelude.{◌≡◌, ◌⊎◌, ℕ, suc, List, [], ◌∷◌, ◌++◌, codes, Option, Result, Ok, Err}
+use Rattle.std.specs.Prelude.{◌≡◌, ◌≤◌, ◌⊎◌, ℕ, suc, List, [], ◌∷◌, ◌++◌, length, codes}
+use Rattle.std.specs.Prelude.{Option, Result, Ok, Err}
 use Rattle.std.specs.List.{AllZip}
 use Rattle.std.specs.Fmt.{decimal}
 use Rattle.pep508_url.specs.Vars.{Variables}
@@ -17,16 +18,22 @@ use Rattle.reqtable_requirements.specs.LineReading.{LineRecord}
 use Rattle.reqtable_requirements.specs.Requirements.{StandsFor}
 use Rattle.reqtable_requirements.specs.declared.requirements.Line.{Line}
 use Rattle.reqtable_cases.specs.Lines.{HasTooMany, IsFirstTooMany}
-use Rattle.reqtable_table.specs.Cases.{Builds}
+use Rattle.reqtable_table.specs.Cases.{BuildsWithin}
+use Rattle.reqtable_table.specs.InAll.{HasMoreInAll, HasTooManyInAll}
 use Rattle.reqtable_table.specs.Kept.{KeptPackage}
+use Rattle.reqtable_table.specs.declared.table.TableError.{TableError}
+use Rattle.reqtable_table.specs.declared.table.TableError.TheVariants as table
 use Rattle.reqs_io_faults.specs.declared.fault.Input.TheVariants.{First, Second, Third}
 use Rattle.reqs_io_faults.specs.declared.fault.RunFault.{RunFault}
-use Rattle.reqs_io_faults.specs.declared.fault.RunFault.TheVariants.{TooManyCases, Memory, Write}
+use Rattle.reqs_io_faults.specs.declared.fault.RunFault.TheVariants.{TooManyCases, TooMany, Memory, Write}
 use Rattle.reqs_io_faults.specs.declared.fault.Status.{Status}
 use Rattle.reqs_io_faults.specs.declared.fault.Status.TheVariants.{Answered}
 use Rattle.reqs_io_faults.specs.Faults.{Cause, IsOfTexts, Refuses}
 use Rattle.reqs_io_faults.specs.Inputs.{environments_from}
 use Rattle.reqs_io_faults.specs.Ends.{of_input, Runs}
+use Rattle.reqs_io_faults.specs.Within.{PassesAt, Outgrows, RefusesOr}
+use Rattle.reqs_io_faults.specs.declared.bounds.Bounds.{Bounds}
+use Rattle.reqs_io_faults.specs.declared.bounds.Excess.TheVariants as excess
 use Rattle.reqs_io.specs.Front.{WritesWhole, AppendsFront}
 use Rattle.reqs_pieces.specs.Pieces.{PiecesRecord}
 use Rattle.reqs_answers.specs.Check.{on_request}
@@ -90,22 +97,9 @@ IsOverLimit limit lines fault =
 abbrev pub IsRead : MatrixTexts → (ReadTexts (List EnvironmentRecord) → Type 0) → Type 0
 IsRead texts Holds = (read : ReadTexts (List EnvironmentRecord)) × (texts ≡ Ok read) × Holds read
 
--- the text has the answers; or the texts are refused for this fault, or, once all are parsed, for a package
--- that has too many cases
-abbrev pub AnswersAll : (RunFault → Type 0) → Format → ℕ → Result PiecesRecord RunFault → MatrixTexts → Type 0
-AnswersAll IsOne format limit (Ok text) texts =
-    IsRead texts (λ read. IsWithinLimit format limit read text.whole)
-AnswersAll IsOne format limit (Err fault) texts =
-    Refuses IsOne fault texts ⊎ IsRead texts (λ read. IsOverLimit limit read.lines fault)
-
 -- lines represent those of some text
 abbrev pub AreRead : List NodeRecord → List Line → Type 0
 AreRead nodes lines = (vars : Variables) × (said : List LineRecord) × AllZip (StandsFor vars nodes) lines said
-
--- a table of lines is built, with these nodes, or refused
-abbrev pub TablesAs : ℕ → List NodeRecord → List LineRecord → Result (List KeptPackage) RunFault → Type 0
-TablesAs limit nodes lines (Ok table) = Builds limit nodes lines (Ok table)
-TablesAs limit nodes lines (Err fault) = (fault ≡ Memory) ⊎ IsOverLimit limit lines fault
 
 abbrev pub matrix_texts : Variables → List (List ℕ) → List (List ℕ) → MatrixTexts
 matrix_texts vars extras inputs =
@@ -138,4 +132,86 @@ abbrev pub RunsMatrix : {W : Type 0} → Format → ℕ → Variables → List (
     → Option (List ℕ) → Option (List ℕ) → (W → Option (List ℕ)) → W → W → Result Status RunFault → Type 0
 RunsMatrix format limit vars extras requirements environments candidates contents old new result =
     Runs (MatrixAnswersAs format limit vars extras) (MatrixRefuses limit vars extras)
+    (requirements ∷ environments ∷ candidates ∷ []) contents old new result
+
+-- ---- with bounds
+
+-- all packages together have at most `in_all` cases
+abbrev pub AreFewInAll : ℕ → ℕ → List LineRecord → Type 0
+AreFewInAll limit in_all lines = (last : List ℕ) → HasMoreInAll limit in_all lines last → ⊥
+
+-- the fault names the first package that has more cases than the limit, and with no more than the limit of
+-- its cases the packages up to it have at most `in_all`
+abbrev pub IsOverLimitWithin : ℕ → ℕ → List LineRecord → RunFault → Type 0
+IsOverLimitWithin limit in_all lines fault =
+    (name : List ℕ) × (fault ≡ TooManyCases First limit name) × IsFirstTooMany limit lines name
+    × (HasMoreInAll limit in_all lines name → ⊥)
+
+-- the fault names the bound on all cases, and up to some package there are more, while none before it has
+-- more than the limit
+abbrev pub IsOverInAll : ℕ → ℕ → List LineRecord → RunFault → Type 0
+IsOverInAll limit in_all lines fault =
+    (fault ≡ TooMany (excess.Cases First in_all)) × HasTooManyInAll limit in_all lines
+
+-- a bound was passed once lines were parsed: on the nodes, or else on all cases
+abbrev pub OutgrowsOrOver : Bounds → List NodeRecord → ℕ → List LineRecord → RunFault → Type 0
+OutgrowsOrOver bounds nodes limit lines fault =
+    Outgrows bounds.nodes nodes fault
+    ⊎ ((length nodes ≤ bounds.nodes) × IsOverInAll limit bounds.cases lines fault)
+
+-- the fault where no table is built
+abbrev pub unbuilt : ℕ → ℕ → TableError → RunFault
+unbuilt limit in_all (table.TooManyCases name) = TooManyCases First limit name
+unbuilt limit in_all table.TooManyCasesInAll = TooMany (excess.Cases First in_all)
+unbuilt limit in_all table.Memory = Memory
+
+-- a table of lines is built, with these nodes, or refused for a package that has too many cases
+abbrev pub TablesWithin : ℕ → ℕ → List NodeRecord → List LineRecord → Result (List KeptPackage) RunFault
+    → Type 0
+TablesWithin limit in_all nodes lines (Ok table) = BuildsWithin limit in_all nodes lines (Ok table)
+TablesWithin limit in_all nodes lines (Err fault) =
+    (fault ≡ Memory) ⊎ IsOverLimitWithin limit in_all lines fault
+
+-- the text has the answers, from few cases; or the texts are refused for this fault, or, once all are parsed,
+-- for a package that has too many cases
+abbrev pub AnswersAll : (RunFault → Type 0) → Format → ℕ → ℕ → Result PiecesRecord RunFault → MatrixTexts
+    → Type 0
+AnswersAll IsOne format limit in_all (Ok text) texts =
+    IsRead texts (λ read. IsWithinLimit format limit read text.whole × AreFewInAll limit in_all read.lines)
+AnswersAll IsOne format limit in_all (Err fault) texts =
+    Refuses IsOne fault texts ⊎ IsRead texts (λ read. IsOverLimitWithin limit in_all read.lines fault)
+
+-- a bound was passed: on the nodes at a line of the requirements, or else one once all texts were parsed
+abbrev pub PassesIn : Bounds → List NodeRecord → ℕ → Variables → List ℕ → MatrixTexts → RunFault → Type 0
+PassesIn bounds nodes limit vars requirements texts fault =
+    PassesAt vars First bounds.nodes nodes requirements fault
+    ⊎ IsRead texts (λ read. OutgrowsOrOver bounds nodes limit read.lines fault)
+
+abbrev pub MatrixAnswersWithin : Bounds → List NodeRecord → Format → ℕ → Variables → List (List ℕ)
+    → List (List ℕ) → Status → List ℕ → Type 0
+MatrixAnswersWithin bounds nodes format limit vars extras inputs status text =
+    (status ≡ Answered)
+    × IsRead (matrix_texts vars extras inputs)
+    (λ read. IsWithinLimit format limit read text × AreFewInAll limit bounds.cases read.lines)
+    × (length nodes ≤ bounds.nodes)
+
+abbrev pub MatrixRefusesWithin : Bounds → ℕ → Variables → List (List ℕ) → List (List ℕ) → RunFault → Type 0
+MatrixRefusesWithin bounds limit vars extras inputs fault =
+    Refuses (IsOfTexts vars First (of_input inputs First)) fault (matrix_texts vars extras inputs)
+    ⊎ IsRead (matrix_texts vars extras inputs)
+    (λ read. IsOverLimitWithin limit bounds.cases read.lines fault)
+
+abbrev pub MatrixPasses : Bounds → List NodeRecord → ℕ → Variables → List (List ℕ) → List (List ℕ) → RunFault
+    → Type 0
+MatrixPasses bounds nodes limit vars extras inputs =
+    PassesIn bounds nodes limit vars (of_input inputs First) (matrix_texts vars extras inputs)
+
+-- `matrix` ends with this result where the bounds are these, with these nodes afterwards
+abbrev pub RunsMatrixWithin : {W : Type 0} → Bounds → List NodeRecord → Format → ℕ → Variables
+    → List (List ℕ) → Option (List ℕ) → Option (List ℕ) → Option (List ℕ) → (W → Option (List ℕ)) → W → W
+    → Result Status RunFault → Type 0
+RunsMatrixWithin bounds nodes format limit vars extras requirements environments candidates contents old new
+    result =
+    Runs (MatrixAnswersWithin bounds nodes format limit vars extras)
+    (RefusesOr (MatrixPasses bounds nodes limit vars extras) (MatrixRefusesWithin bounds limit vars extras))
     (requirements ∷ environments ∷ candidates ∷ []) contents old new result

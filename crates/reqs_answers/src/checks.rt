@@ -1,20 +1,24 @@
 //! `check`: the answer for one environment.
 //!
+//! Candidates are judged while they are read, so no list of them is kept. Which rows are answered is stated by
+//! the list all the same.
+//!
 //! `check` and `matrix` read requirements, extras and candidates by one definition (`texts_of`), whose
 //! parameter is what the second text is.
 
-ghost use Rattle.std.specs.Prelude.{◌≡◌, ◌≢◌, List, map, IfErr, IfOk, string_bytes};
+ghost use Rattle.std.specs.Prelude.{◌≡◌, ◌≢◌, List, All, map, length, IfErr, IfOk};
 ghost use Rattle.std.specs.List.{AllZip};
 ghost use Rattle.pep508_url.specs.Vars.{Variables};
 ghost use Rattle.pep508_evaluation.specs.Valuations.{valuation_of};
 ghost use Rattle.reqtable_requirements.specs.Asks.{asks_of};
 ghost use Rattle.reqtable_requirements.specs.LineReading.{LineRecord};
 ghost use Rattle.reqtable_requirements.specs.Requirements.{SaysLine};
-ghost use Rattle.reqs_json.specs.Rows.{IsAnswerIn};
-ghost use Rattle.reqs_io_faults.specs.declared.fault.Input.TheVariants.{First, Second};
+ghost use Rattle.reqtable_answer.specs.Rows.{row_seen, IsTakenBelow};
+ghost use Rattle.reqtable_streaming.specs.Selection.{IsSelection};
+ghost use Rattle.reqs_io_faults.specs.declared.fault.Input.TheVariants.{First, Second, Third};
 ghost use Rattle.reqs_io_faults.specs.Faults.{IsPlain, IsOfTexts};
-ghost use Rattle.reqs_io_faults.specs.Inputs.{environment_from};
-ghost use Rattle.reqs_answers.specs.Check.{on_request, AnswersText, RunsCheck};
+ghost use Rattle.reqs_io_faults.specs.Inputs.{environment_from, candidates_from};
+ghost use Rattle.reqs_answers.specs.Check.{on_request, AnswersRead, AnswersText, RunsCheck};
 ghost use Rattle.reqs_answers.specs.Texts.{behind_lines, texts_of};
 
 use crate::admitting::is_admitted;
@@ -22,14 +26,14 @@ use pep508_environment::MarkerEnvironment;
 use pep508_name::ExtraName;
 use pep508_url::Vars;
 use reqs_io_faults::{
-    Input, RunFault, Status, read_candidates, read_environment, read_extras, read_input,
-    read_marked_lines, write_answer,
+    Input, RunFault, Status, read_environment, read_extras, read_input, read_marked_lines,
+    write_answer,
 };
 use reqs_json::Format;
 use reqtable_answer::Admission;
-use reqtable_candidates::Candidates;
 use reqtable_requirements::MarkedLines;
-use std::alloc::{AllocError, Global};
+use reqtable_streaming::{Selection, judge_text};
+use std::alloc::Global;
 use std::io::{Read, Write};
 
 /// Reads a list of requirements, an environment and a list of candidates, and writes the row of each package
@@ -40,7 +44,7 @@ use std::io::{Read, Write};
 /// (`docs/COMMANDS.md`).
 ///
 /// All inputs are read whole, in this order; then the extras are parsed as names, and then each input. The
-/// whole answer is made, by one call of `MarkedLines::judge`, before the first write.
+/// whole answer is made, by one call of `judge_text`, before the first write.
 ///
 /// # Errors
 ///
@@ -118,35 +122,42 @@ fn text_behind(
         environment.old.items candidates.old.items) }
 {
     let environment = read_environment(alloc, Input::Second, 1, environment)?;
-    let candidates = read_candidates(alloc, Input::Third, candidates)?;
-    match answer_text(
-        alloc,
-        requirements,
-        &environment,
-        extras,
-        &candidates,
-        format,
-    ) {
+    let selection = selected(alloc, requirements, &environment, extras, candidates)?;
+    match reqs_json::answer_text(alloc, format, &selection.answer, &selection.candidates) {
         Ok(text) => Ok(text),
         Err(_) => Err(RunFault::Memory),
     }
 }
 
-/// The text, in a format, of the answer to the requirements in the environment with the extras.
-fn answer_text(
+/// The answer to the requirements in the environment with the extras, with the candidates that it selects.
+/// Drops the bytes of the candidates once they are read.
+fn selected(
     alloc: Global,
     requirements: &MarkedLines,
     environment: &MarkerEnvironment,
     extras: &[ExtraName],
-    candidates: &Candidates,
-    format: Format,
-) -> Result<String, AllocError>
-    ensures { IfOk result (λ text. (vars : Variables) (said : List LineRecord) →
+    candidates: &mut Vec<u8>,
+) -> Result<Selection, RunFault>
+    ensures answered { AnswersRead (λ read selection. (vars : Variables) (said : List LineRecord) →
         AllZip (SaysLine vars) requirements.now said →
-        IsAnswerIn format on_request (asks_of (valuation_of environment.now extras.now) said) candidates.now
-        (string_bytes text)) }
+        IsSelection on_request (asks_of (valuation_of environment.now extras.now) said) read
+        selection.candidates.items (map row_seen selection.answer.rows.items))
+        result (candidates_from Third candidates.old.items) }
+    ensures places { IfOk result (λ selection. All
+        (λ row. IsTakenBelow (length selection.candidates.items) row.outcome) selection.answer.rows.items) }
 {
     let admission = Admission::new(|version, named| is_admitted(version, named));
-    let answer = requirements.judge(alloc, environment, extras, candidates, &admission)?;
-    reqs_json::answer_text(alloc, format, &answer, candidates)
+    let read = judge_text(
+        alloc,
+        requirements,
+        environment,
+        extras,
+        candidates,
+        &admission,
+    );
+    *candidates = Vec::new(alloc);
+    match read {
+        Ok(selection) => Ok(selection),
+        Err(error) => Err(RunFault::of_candidates(Input::Third, error)),
+    }
 }

@@ -15,4 +15,4 @@ pub mod laws;
 mod matrices;
 
 pub use checks::check;
-pub use matrices::matrix;
+pub use matrices::{matrix, matrix_within};

@@ -5,7 +5,7 @@
 //! the very definition by which `check` is stated; that it is what `check` writes is then a law, since an
 //! answer has one text.
 
-ghost use Rattle.std.specs.Prelude.{◌≡◌, ◌≢◌, ◌++◌, ◌∷◌, [], List, map, codes};
+ghost use Rattle.std.specs.Prelude.{◌≡◌, ◌≢◌, ◌≤◌, ◌++◌, ◌∷◌, [], List, length, map, codes};
 ghost use Rattle.std.specs.Prelude.{IfErr, IfOk, OnOk, string_bytes};
 ghost use Rattle.std.specs.List.{AllZip, AllByRecursion};
 ghost use Rattle.pep508_url.specs.Vars.{Variables};
@@ -19,10 +19,12 @@ ghost use Rattle.reqtable_table.specs.Runs.{AreRunsOf, AreTold};
 ghost use Rattle.reqs_io_faults.specs.declared.fault.Input.TheVariants.{First, Second};
 ghost use Rattle.reqs_io_faults.specs.Faults.{IsPlain, IsOfTexts};
 ghost use Rattle.reqs_io_faults.specs.Inputs.{environments_from};
+ghost use Rattle.reqs_io_faults.specs.Within.{Bounded};
 ghost use Rattle.reqs_answers.specs.Check.{on_request};
 ghost use Rattle.reqs_json.specs.declared.format.Format.TheVariants.{Json};
 ghost use Rattle.reqs_answers.specs.Matrix.{environment_line, IsMatrixText, IsMatrixIn, AreRead, AnswersAll};
-ghost use Rattle.reqs_answers.specs.Matrix.{TablesAs, RunsMatrix, WritesText};
+ghost use Rattle.reqs_answers.specs.Matrix.{TablesWithin, RunsMatrix, WritesText, IsRead, PassesIn};
+ghost use Rattle.reqs_answers.specs.Matrix.{OutgrowsOrOver, unbuilt, RunsMatrixWithin};
 ghost use Rattle.reqs_answers.specs.Texts.{behind_lines, texts_of};
 
 use crate::admitting::is_admitted;
@@ -32,8 +34,8 @@ use pep508_name::ExtraName;
 use pep508_tree::Interner;
 use pep508_url::Vars;
 use reqs_io_faults::{
-    Input, RunFault, Status, read_candidates, read_environments, read_extras, read_input,
-    read_requirements,
+    Bounds, Excess, Input, RunFault, Status, read_candidates, read_environments, read_extras,
+    read_input, requirements_within,
 };
 use reqs_json::{Format, environment_text};
 use reqs_pieces::Pieces;
@@ -47,6 +49,14 @@ use std::io::{Read, Write};
 
 /// The size of the output buffer, in bytes.
 const WAITING_BYTES: usize = 65_536;
+
+/// What is asked for besides the inputs.
+#[derive(Clone, Copy)]
+struct Request {
+    limit: u64,
+    format: Format,
+    bounds: Bounds,
+}
 
 /// Reads a list of requirements, a list of environments and a list of candidates, and writes for each
 /// environment its number, as `env 1`, on a line, and then what `check` writes for it; or one object with the
@@ -81,9 +91,70 @@ pub fn matrix<L: Read, E: Read, C: Read, W: Write>(
     // A refused command has written nothing.
     ensures unwritten { IfErr result (λ fault. fault ≢ RunFault.Write → output.new ≡ output.old) }
 {
+    let mut interner = Interner::new(alloc);
+    let none = Bounds::none();
+    let _ = interner.node_count();
+    match matrix_within(
+        alloc,
+        requirements,
+        environments,
+        candidates,
+        extras,
+        vars,
+        limit,
+        format,
+        none,
+        &mut interner,
+        output,
+    ) {
+        Ok(status) => Ok(status),
+        Err(fault) => Err(fault.unbounded()),
+    }
+}
+
+/// Writes the answers for environments as `matrix` does, unless that passes a bound. Only the bounds on nodes
+/// and cases matter.
+///
+/// The trees are made in `interner`, best a fresh one by `Interner::with_most(alloc, bounds.nodes)`, which
+/// also stops in the middle of a tree. The table is built by `Table::build_within`, so that no more than
+/// `bounds.cases` cases are kept, whatever `limit` is.
+///
+/// # Errors
+///
+/// Those of `matrix`; and in `RunFault::TooMany`, once the whole list of requirements is known to be valid,
+/// `Excess::NodesAt` for the first line after whose tree there are more than `bounds.nodes` nodes; or, once
+/// all texts are, `Excess::Nodes` if there are more once the table is made, and otherwise `Excess::Cases` if
+/// the packages up to some package, by name, have more than `bounds.cases` cases together, and none before it
+/// has more than `limit`. Where that package has more than `limit` too, the fault is `RunFault::TooManyCases`
+/// if those before it leave `limit` cases or more, and otherwise `Excess::Cases`. Nothing is written then.
+pub fn matrix_within<L: Read, E: Read, C: Read, W: Write>(
+    alloc: Global,
+    requirements: &mut L,
+    environments: &mut E,
+    candidates: &mut C,
+    extras: &[&str],
+    vars: &Vars,
+    limit: u64,
+    format: Format,
+    bounds: Bounds,
+    interner: &mut Interner,
+    output: &mut W,
+) -> Result<Status, RunFault>
+    requires { length interner.old.nodes ≤ bounds.nodes }
+    ensures runs { RunsMatrixWithin bounds interner.new.nodes format limit vars.now (map (λ e. e.now) extras.now)
+        (L.remaining requirements.old) (E.remaining environments.old) (C.remaining candidates.old)
+        W.contents output.old output.new result }
+    // A refused command has written nothing.
+    ensures unwritten { IfErr result (λ fault. fault ≢ RunFault.Write → output.new ≡ output.old) }
+{
     let mut requirements = read_input(alloc, Input::First, requirements)?;
     let mut environments = read_input(alloc, Input::Second, environments)?;
     let mut candidates = read_input(alloc, Input::Third, candidates)?;
+    let request = Request {
+        limit,
+        format,
+        bounds,
+    };
     let text = matrix_text(
         alloc,
         &mut requirements,
@@ -91,8 +162,8 @@ pub fn matrix<L: Read, E: Read, C: Read, W: Write>(
         &mut candidates,
         extras,
         vars,
-        limit,
-        format,
+        request,
+        interner,
     )?;
     write_text(alloc, &text, output)
 }
@@ -119,25 +190,35 @@ fn matrix_text(
     candidates: &mut Vec<u8>,
     extras: &[&str],
     vars: &Vars,
-    limit: u64,
-    format: Format,
+    request: Request,
+    interner: &mut Interner,
 ) -> Result<Pieces, RunFault>
-    ensures { AnswersAll (IsOfTexts vars.now First requirements.old.items) format limit result
-        (texts_of (environments_from Second) vars.now (map (λ e. e.now) extras.now)
-        requirements.old.items environments.old.items candidates.old.items) }
+    requires { length interner.old.nodes ≤ request.bounds.nodes }
+    ensures { let texts = texts_of (environments_from Second) vars.now (map (λ e. e.now) extras.now)
+        requirements.old.items environments.old.items candidates.old.items in
+        Bounded (λ text. AnswersAll (IsOfTexts vars.now First requirements.old.items)
+        request.format request.limit request.bounds.cases text texts)
+        (length interner.new.nodes ≤ request.bounds.nodes)
+        (PassesIn request.bounds interner.new.nodes request.limit vars.now requirements.old.items texts)
+        result }
 {
     let extras = read_extras(alloc, extras)?;
-    let mut interner = Interner::new(alloc);
-    let requirements = read_requirements(alloc, Input::First, requirements, &mut interner, vars)?;
+    let requirements = requirements_within(
+        alloc,
+        Input::First,
+        requirements,
+        interner,
+        vars,
+        request.bounds.nodes,
+    )?;
     matrix_behind(
         alloc,
         requirements,
-        &mut interner,
+        interner,
         &extras,
         environments,
         candidates,
-        limit,
-        format,
+        request,
     )
 }
 
@@ -149,18 +230,21 @@ fn matrix_behind(
     extras: &[ExtraName],
     environments: &mut Vec<u8>,
     candidates: &mut Vec<u8>,
-    limit: u64,
-    format: Format,
+    request: Request,
 ) -> Result<Pieces, RunFault>
     requires { AreRead interner.old.nodes requirements }
     ensures { (vars : Variables) (said : List LineRecord) →
         AllZip (StandsFor vars interner.old.nodes) requirements said →
-        AnswersAll IsPlain format limit result (behind_lines (environments_from Second) extras.now said
-        environments.old.items candidates.old.items) }
+        let texts = behind_lines (environments_from Second) extras.now said
+        environments.old.items candidates.old.items in
+        Bounded (λ text. AnswersAll IsPlain request.format request.limit request.bounds.cases text texts)
+        (length interner.new.nodes ≤ request.bounds.nodes)
+        (λ fault. IsRead texts (λ read.
+        OutgrowsOrOver request.bounds interner.new.nodes request.limit read.lines fault)) result }
 {
     let environments = read_environments(alloc, Input::Second, environments)?;
     let candidates = read_candidates(alloc, Input::Third, candidates)?;
-    let mut table = table_of(alloc, requirements, interner, limit)?;
+    let mut table = table_of(alloc, requirements, interner, request.limit, request.bounds)?;
     match answers_text(
         alloc,
         &mut table,
@@ -168,7 +252,7 @@ fn matrix_behind(
         &environments,
         extras,
         &candidates,
-        format,
+        request.format,
     ) {
         Ok(text) => Ok(text),
         Err(_) => Err(RunFault::Memory),
@@ -181,20 +265,39 @@ fn table_of(
     requirements: Requirements,
     interner: &mut Interner,
     limit: u64,
+    bounds: Bounds,
 ) -> Result<Table, RunFault>
     requires { AreOfNodes interner.old.nodes requirements }
     ensures { (vars : Variables) (said : List LineRecord) →
         AllZip (StandsFor vars interner.old.nodes) requirements said →
-        TablesAs limit interner.new.nodes said result }
+        Bounded (TablesWithin limit bounds.cases interner.new.nodes said)
+        (length interner.new.nodes ≤ bounds.nodes) (OutgrowsOrOver bounds interner.new.nodes limit said)
+        result }
 {
-    match Table::build(alloc, requirements, interner, limit) {
+    let most = bounds.nodes;
+    let built = Table::build_within(alloc, requirements, interner, limit, bounds.cases);
+    if interner.node_count() > most {
+        return Err(RunFault::TooMany(Excess::Nodes { most }));
+    }
+    match built {
         Ok(table) => Ok(table),
-        Err(TableError::TooManyCases { package }) => Err(RunFault::TooManyCases {
-            input: Input::First,
+        Err(error) => Err(unbuilt(error, limit, bounds.cases)),
+    }
+}
+
+/// The fault for the first input's requirements of which no table was built.
+fn unbuilt(error: TableError, limit: u64, most: u64) -> RunFault
+    ensures { result ≡ unbuilt limit most error }
+{
+    let input = Input::First;
+    match error {
+        TableError::TooManyCases { package } => RunFault::TooManyCases {
+            input,
             limit,
             package,
-        }),
-        Err(TableError::Memory) => Err(RunFault::Memory),
+        },
+        TableError::TooManyCasesInAll => RunFault::TooMany(Excess::Cases { input, most }),
+        TableError::Memory => RunFault::Memory,
     }
 }
 

@@ -2,11 +2,12 @@
 //!
 //! An answer is the JSON object that the command prints with `--format json`, on one line
 //! (`docs/COMMANDS.md`). A refusal is that of the call without `_json`: the reply has its place, so the
-//! message stays text.
+//! message stays text. Bounds are those of `lists.rt`.
 
 ghost use Rattle.reqs_c_reply.specs.Endings.{RepliesAs};
 ghost use Rattle.reqs_c_lists.specs.Commands.{CheckEnds, MatrixEnds, SameEnds, ConflictsEnd, NormalEnds};
 
+use reqs_c_lists::Bounds;
 use reqs_c_reply::Reply;
 use reqs_json::Format;
 use std::alloc::Global;
@@ -47,12 +48,20 @@ pub extern "C" fn reqs_matrix_json(
     candidates: &[u8],
     extras: &[u8],
     limit: u64,
+    nodes: usize,
+    cases: u64,
     out: &mut [u8],
 ) -> Reply
     ensures { RepliesAs
-        (MatrixEnds Format.Json limit requirements.now environments.now candidates.now extras.now)
+        (MatrixEnds Format.Json limit (record { nodes = nodes; clauses = usize.MAX; cases = cases })
+        requirements.now environments.now candidates.now extras.now)
         out.old out.new result }
 {
+    let bounds = Bounds {
+        nodes,
+        clauses: usize::MAX,
+        cases,
+    };
     reqs_c_lists::matrix(
         alloc,
         requirements,
@@ -60,6 +69,7 @@ pub extern "C" fn reqs_matrix_json(
         candidates,
         extras,
         limit,
+        bounds,
         Format::Json,
         out,
     )
@@ -73,11 +83,22 @@ pub extern "C" fn reqs_same_json(
     left: &[u8],
     right: &[u8],
     limit: u64,
+    nodes: usize,
+    clauses: usize,
+    cases: u64,
     out: &mut [u8],
 ) -> Reply
-    ensures { RepliesAs (SameEnds Format.Json limit left.now right.now) out.old out.new result }
+    ensures { RepliesAs
+        (SameEnds Format.Json limit (record { nodes = nodes; clauses = clauses; cases = cases })
+        left.now right.now)
+        out.old out.new result }
 {
-    reqs_c_lists::same(alloc, left, right, limit, Format::Json, out)
+    let bounds = Bounds {
+        nodes,
+        clauses,
+        cases,
+    };
+    reqs_c_lists::same(alloc, left, right, limit, bounds, Format::Json, out)
 }
 
 /// The JSON that `reqs conflicts` prints on a list with `--format json`. No package may have more cases than
@@ -87,17 +108,40 @@ pub extern "C" fn reqs_conflicts_json(
     alloc: Global,
     requirements: &[u8],
     limit: u64,
+    nodes: usize,
+    cases: u64,
     out: &mut [u8],
 ) -> Reply
-    ensures { RepliesAs (ConflictsEnd Format.Json limit requirements.now) out.old out.new result }
+    ensures { RepliesAs
+        (ConflictsEnd Format.Json limit (record { nodes = nodes; clauses = usize.MAX; cases = cases })
+        requirements.now)
+        out.old out.new result }
 {
-    reqs_c_lists::conflicts(alloc, requirements, limit, Format::Json, out)
+    let bounds = Bounds {
+        nodes,
+        clauses: usize::MAX,
+        cases,
+    };
+    reqs_c_lists::conflicts(alloc, requirements, limit, bounds, Format::Json, out)
 }
 
 /// The JSON that `reqs normal` prints with `--format json`: the lines of the list's normal form.
 #[unsafe(no_mangle)]
-pub extern "C" fn reqs_normal_json(alloc: Global, requirements: &[u8], out: &mut [u8]) -> Reply
-    ensures { RepliesAs (NormalEnds Format.Json requirements.now) out.old out.new result }
+pub extern "C" fn reqs_normal_json(
+    alloc: Global,
+    requirements: &[u8],
+    nodes: usize,
+    clauses: usize,
+    out: &mut [u8],
+) -> Reply
+    ensures { RepliesAs
+        (NormalEnds Format.Json (record { nodes = nodes; clauses = clauses; cases = u64.MAX })
+        requirements.now) out.old out.new result }
 {
-    reqs_c_lists::normal(alloc, requirements, Format::Json, out)
+    let bounds = Bounds {
+        nodes,
+        clauses,
+        cases: u64::MAX,
+    };
+    reqs_c_lists::normal(alloc, requirements, bounds, Format::Json, out)
 }

@@ -16,7 +16,7 @@ ghost use Rattle.std.specs.Prelude.{◌≡◌};
 /// The version number of this interface.
 #[unsafe(no_mangle)]
 pub extern "C" fn reqs_abi() -> u32
-    ensures { result ≡ 3 }
+    ensures { result ≡ 4 }
 {
-    3
+    4
 }

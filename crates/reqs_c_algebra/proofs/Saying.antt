@@ -6,7 +6,7 @@ use Rattle.pep508_tree.specs.Meaning.{NodeRecord, holds}
 use Rattle.reqs_c_reply.specs.declared.place.Place.{Place}
 use Rattle.reqs_c_reply.specs.Endings.{Ending, Answered, Different, Refused, OutOfMemory, EndsIn}
 use Rattle.reqs_c_reply.specs.Endings.{NoRefusal, yes_or_no}
-use Rattle.reqs_c_markers.specs.Markers.{marker_holds, IsMarkerTree, RefusesMarker}
+use Rattle.reqs_c_markers.specs.Markers.{marker_holds, IsMarkerTree, AreFew, RefusesTree}
 use Rattle.reqs_c_algebra.specs.Relations.{Values, SaysOf, IsYesOrNo, SaysOfTwo, EndsOnTwo, RefusesEither}
 
 -- ---- endings
@@ -46,34 +46,41 @@ pub tree_values : (nodes : List NodeRecord) (bytes : List ℕ) (tree : Tree) (is
 tree_values nodes bytes tree is = λ i v. is.is_tree.truth v i
 
 -- what is said of the tree is said of the marker
-pub says_so : (nodes : List NodeRecord) (bytes : List ℕ) (tree : Tree) (Says : Values → List ℕ → Type 0)
-    (said : List ℕ) → IsMarkerTree nodes bytes tree → Says (holds nodes tree) said → SaysOf bytes Says said
-says_so nodes bytes tree Says said is h = record {
+pub says_so : (most : ℕ) (nodes : List NodeRecord) (bytes : List ℕ) (tree : Tree) (Says : Values → List ℕ → Type 0)
+    (said : List ℕ) → AreFew most nodes → IsMarkerTree nodes bytes tree → Says (holds nodes tree) said
+    → SaysOf most bytes Says said
+says_so most nodes bytes tree Says said few is h = record {
   marker = is.marker;
   is_marker = is.is_marker;
+  has_tree = record { nodes = nodes; tree = tree; are_few = few; is_tree = is };
   says = subst (λ (value : Values). Says value said) (tree_values nodes bytes tree is) h;
 }
 
-pub says_of : (nodes : List NodeRecord) (bytes : List ℕ) (tree : Tree) (Says : Values → List ℕ → Type 0)
-    (said : List ℕ) (ending : Ending) → IsMarkerTree nodes bytes tree → Says (holds nodes tree) said
-    → EndsIn (λ text. text ≡ said) NoRefusal ending → EndsIn (SaysOf bytes Says) (RefusesMarker 1 bytes) ending
-says_of nodes bytes tree Says said ending is h ends =
-    answers_more (λ text. text ≡ said) (SaysOf bytes Says) (RefusesMarker 1 bytes)
-    (λ text e. subst (SaysOf bytes Says) (sym e) (says_so nodes bytes tree Says said is h)) ending ends
+pub says_of : (most : ℕ) (nodes : List NodeRecord) (bytes : List ℕ) (tree : Tree) (Says : Values → List ℕ → Type 0)
+    (said : List ℕ) (ending : Ending) → AreFew most nodes → IsMarkerTree nodes bytes tree
+    → Says (holds nodes tree) said → EndsIn (λ text. text ≡ said) NoRefusal ending
+    → EndsIn (SaysOf most bytes Says) (RefusesTree 1 most bytes) ending
+says_of most nodes bytes tree Says said ending few is h ends =
+    answers_more (λ text. text ≡ said) (SaysOf most bytes Says) (RefusesTree 1 most bytes)
+    (λ text e. subst (SaysOf most bytes Says) (sym e) (says_so most nodes bytes tree Says said few is h)) ending ends
 
-module _ (nodes : List NodeRecord) (left right : List ℕ) (first second : Tree) (StandSo : Values → Values → Type 0) where
+module _ (most : ℕ) (nodes : List NodeRecord) (left right : List ℕ) (first second : Tree)
+    (StandSo : Values → Values → Type 0) where
   -- and of two
-  pub says_of_two : (ending : Ending) → IsMarkerTree nodes left first → IsMarkerTree nodes right second
+  pub says_of_two : (ending : Ending) → AreFew most nodes → IsMarkerTree nodes left first
+      → IsMarkerTree nodes right second
       → EndsIn (IsYesOrNo (StandSo (holds nodes first) (holds nodes second))) NoRefusal ending
-      → EndsOnTwo StandSo left right ending
-  says_of_two ending a b ends =
-      answers_more (IsYesOrNo (StandSo (holds nodes first) (holds nodes second))) (SaysOfTwo left right StandSo)
-      (RefusesEither left right)
+      → EndsOnTwo StandSo most left right ending
+  says_of_two ending few a b ends =
+      answers_more (IsYesOrNo (StandSo (holds nodes first) (holds nodes second)))
+      (SaysOfTwo most left right StandSo) (RefusesEither most left right)
       (λ text h. record {
         first = a.marker;
         second = b.marker;
         is_first = a.is_marker;
         is_second = b.is_marker;
+        have_trees =
+            record { nodes = nodes; first = first; second = second; are_few = few; is_first = a; is_second = b };
         says =
             subst (λ (value : Values). IsYesOrNo (StandSo (marker_holds a.marker) value) text)
             (tree_values nodes right second b)

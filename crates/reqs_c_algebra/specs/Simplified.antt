@@ -6,7 +6,8 @@ use Rattle.pep508_marker_parser.specs.MarkerReading.{Marker}
 use Rattle.pep508_simplification.specs.Simplified.{IsSimplified, between, is_listed, with_named}
 use Rattle.reqs_c_reply.specs.declared.place.Place.{Place}
 use Rattle.reqs_c_reply.specs.Endings.{Ending, EndsIn}
-use Rattle.reqs_c_markers.specs.Markers.{Wants, marker_holds, IsMarkerIn, RefusesMarker, GivesText}
+use Rattle.reqs_c_markers.specs.declared.bounds.Bounds.{Bounds}
+use Rattle.reqs_c_markers.specs.Markers.{Wants, marker_holds, IsMarkerIn, RefusesTree, GivesText}
 use Rattle.reqs_c_markers.specs.Markers.{GivesNoText}
 use Rattle.reqs_c_algebra.specs.Arguments.{AreNamesIn, RefusesNames}
 use Rattle.reqs_c_algebra.specs.Arguments.{IsVersionOrNone, RefusesVersion, lower_bound, upper_bound}
@@ -19,10 +20,10 @@ HoldsWith names marker value =
     (v : Valuation) → value v ≡ marker_holds marker (with_named (is_listed names) v)
 
 -- the second argument is these names, and the text is the normal one of the marker with extras of these names
-pub record GivesWith (bytes extras text : List ℕ) : Type 0 where
+pub record GivesWith (bounds : Bounds) (bytes extras text : List ℕ) : Type 0 where
   pub names : List (List ℕ)
   pub are_names : AreNamesIn extras names
-  pub gives : GivesText bytes (HoldsWith names) text
+  pub gives : GivesText bounds bytes (HoldsWith names) text
 
 -- the first argument is a marker, and the second one is refused
 pub record RefusesExtras (bytes extras : List ℕ) (place : Place) (message : List ℕ) : Type 0 where
@@ -30,20 +31,22 @@ pub record RefusesExtras (bytes extras : List ℕ) (place : Place) (message : Li
   pub is_marker : IsMarkerIn bytes marker
   pub refuses : RefusesNames 2 extras place message
 
--- the marker with the names has no normal text
-pub record LacksWith (bytes extras : List ℕ) (place : Place) (message : List ℕ) : Type 0 where
+-- the marker with the names has no normal text within the bounds
+pub record LacksWith (bounds : Bounds) (bytes extras : List ℕ) (place : Place) (message : List ℕ)
+    : Type 0 where
   pub names : List (List ℕ)
   pub are_names : AreNamesIn extras names
-  pub lacks : GivesNoText bytes (HoldsWith names) place message
+  pub lacks : GivesNoText bounds bytes (HoldsWith names) place message
 
-abbrev pub RefusesWith : List ℕ → List ℕ → Place → List ℕ → Type 0
-RefusesWith bytes extras place message =
-    RefusesMarker 1 bytes place message
-    ⊎ (RefusesExtras bytes extras place message ⊎ LacksWith bytes extras place message)
+abbrev pub RefusesWith : Bounds → List ℕ → List ℕ → Place → List ℕ → Type 0
+RefusesWith bounds bytes extras place message =
+    RefusesTree 1 bounds.nodes bytes place message
+    ⊎ (RefusesExtras bytes extras place message ⊎ LacksWith bounds bytes extras place message)
 
 -- how a call for the normal text of a marker with these extras present, one per line, ends
-abbrev pub SimplifiedExtrasEnds : List ℕ → List ℕ → Ending → Type 0
-SimplifiedExtrasEnds bytes extras = EndsIn (GivesWith bytes extras) (RefusesWith bytes extras)
+abbrev pub SimplifiedExtrasEnds : Bounds → List ℕ → List ℕ → Ending → Type 0
+SimplifiedExtrasEnds bounds bytes extras =
+    EndsIn (GivesWith bounds bytes extras) (RefusesWith bounds bytes extras)
 
 -- ---- for a range of versions of Python
 
@@ -57,11 +60,11 @@ pub record AreBounds (lower upper : List ℕ) (least end : Option VersionRecord)
   pub is_least : IsVersionOrNone lower least
   pub is_end : IsVersionOrNone upper end
 
-pub record GivesBetween (bytes lower upper text : List ℕ) : Type 0 where
+pub record GivesBetween (bounds : Bounds) (bytes lower upper text : List ℕ) : Type 0 where
   pub least : Option VersionRecord
   pub end : Option VersionRecord
   pub are_bounds : AreBounds lower upper least end
-  pub gives : GivesText bytes (HoldsBetween least end) text
+  pub gives : GivesText bounds bytes (HoldsBetween least end) text
 
 -- the first argument is a marker, and the second one is refused
 pub record RefusesLower (bytes lower : List ℕ) (place : Place) (message : List ℕ) : Type 0 where
@@ -77,19 +80,20 @@ pub record RefusesUpper (bytes lower upper : List ℕ) (place : Place) (message 
   pub is_least : IsVersionOrNone lower least
   pub refuses : RefusesVersion 3 upper place message
 
-pub record LacksBetween (bytes lower upper : List ℕ) (place : Place) (message : List ℕ) : Type 0 where
+pub record LacksBetween (bounds : Bounds) (bytes lower upper : List ℕ) (place : Place) (message : List ℕ)
+    : Type 0 where
   pub least : Option VersionRecord
   pub end : Option VersionRecord
   pub are_bounds : AreBounds lower upper least end
-  pub lacks : GivesNoText bytes (HoldsBetween least end) place message
+  pub lacks : GivesNoText bounds bytes (HoldsBetween least end) place message
 
-abbrev pub RefusesBetween : List ℕ → List ℕ → List ℕ → Place → List ℕ → Type 0
-RefusesBetween bytes lower upper place message =
-    RefusesMarker 1 bytes place message
+abbrev pub RefusesBetween : Bounds → List ℕ → List ℕ → List ℕ → Place → List ℕ → Type 0
+RefusesBetween bounds bytes lower upper place message =
+    RefusesTree 1 bounds.nodes bytes place message
     ⊎ (RefusesLower bytes lower place message
-    ⊎ (RefusesUpper bytes lower upper place message ⊎ LacksBetween bytes lower upper place message))
+    ⊎ (RefusesUpper bytes lower upper place message ⊎ LacksBetween bounds bytes lower upper place message))
 
 -- how a call for the normal text of a marker, simplified to a range of versions of Python, ends
-abbrev pub SimplifiedPythonEnds : List ℕ → List ℕ → List ℕ → Ending → Type 0
-SimplifiedPythonEnds bytes lower upper =
-    EndsIn (GivesBetween bytes lower upper) (RefusesBetween bytes lower upper)
+abbrev pub SimplifiedPythonEnds : Bounds → List ℕ → List ℕ → List ℕ → Ending → Type 0
+SimplifiedPythonEnds bounds bytes lower upper =
+    EndsIn (GivesBetween bounds bytes lower upper) (RefusesBetween bounds bytes lower upper)

@@ -15,23 +15,25 @@ use std::alloc::{AllocError, Global};
 /// valuations (`laws::keys_are_of_meanings`), however they are written. So keys can be compared, hashed and
 /// sorted instead of markers; their order means nothing more.
 ///
-/// Linear in the text except for combining the marker's trees; then O(n log n) in the nodes of the tree.
+/// Linear in the text except for combining the marker's trees, which may have at most `nodes` nodes together
+/// and may otherwise grow exponentially with the text; then O(n log n) in the nodes of the tree.
 ///
 /// # Errors
 ///
-/// Refuses a text that is not a marker, at the byte where it stops being one. Status 3 when memory runs out.
-pub fn marker_key(alloc: Global, bytes: &[u8], out: &mut [u8]) -> Reply
-    ensures { RepliesAs (KeyEnds bytes.now) out.old out.new result }
+/// Refuses a text that is not a marker, at the byte where it stops being one, and then a marker with more
+/// nodes. Status 3 when memory runs out.
+pub fn marker_key(alloc: Global, bytes: &[u8], nodes: usize, out: &mut [u8]) -> Reply
+    ensures { RepliesAs (KeyEnds nodes bytes.now) out.old out.new result }
 {
-    key(alloc, bytes).reply(out)
+    key(alloc, bytes, nodes).reply(out)
 }
 
 /// How the call ends.
-fn key(alloc: Global, bytes: &[u8]) -> Ended
-    ensures { KeyEnds bytes.now (ending_of result) }
+fn key(alloc: Global, bytes: &[u8], nodes: usize) -> Ended
+    ensures { KeyEnds nodes bytes.now (ending_of result) }
 {
-    let mut interner = Interner::new(alloc);
-    match read_marker(alloc, &mut interner, 1, bytes) {
+    let mut interner = Interner::with_most(alloc, nodes);
+    match read_marker(alloc, &mut interner, 1, bytes, nodes) {
         Ok(tree) => match key_of(alloc, &interner, tree) {
             Ok(key) => Ended::Answered(key),
             Err(_) => Ended::OutOfMemory,

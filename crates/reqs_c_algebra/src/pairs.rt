@@ -4,7 +4,7 @@ ghost use Rattle.std.specs.Prelude.{◌≡◌, ◌↔◌, IsTrue, IfOk, IfErr, M
 ghost use Rattle.pep508_tree.specs.Meaning.{IsTree, holds};
 ghost use Rattle.reqs_c_reply.specs.Endings.{EndsIn, NoAnswer, NoRefusal, OutOfMemory, RepliesAs};
 ghost use Rattle.reqs_c_reply.specs.Endings.{ending_of, yes_or_no};
-ghost use Rattle.reqs_c_markers.specs.Markers.{IsMarkerTree};
+ghost use Rattle.reqs_c_markers.specs.Markers.{AreFew, IsMarkerTree};
 ghost use Rattle.reqs_c_algebra.specs.Relations.{DisjointEnds, Implies, ImpliesEnds, RefusesEither};
 
 use crate::truths::said;
@@ -18,24 +18,31 @@ use std::alloc::{AllocError, Global};
 /// Replies with `1` if both markers hold together under no valuation, and so in no environment with any
 /// extras, otherwise with `0`.
 ///
-/// Visits pairs of a node of one marker's tree and a node of the other's, each at most once.
+/// The trees of both markers may have at most `nodes` nodes together, and may otherwise grow exponentially with
+/// the texts. Visits pairs of a node of one marker's tree and a node of the other's, each at most once.
 ///
 /// # Errors
 ///
-/// Refuses a text that is not a marker, the first argument before the second, at the byte where it stops
-/// being one. Status 3 when memory runs out.
-pub fn markers_disjoint(alloc: Global, left: &[u8], right: &[u8], out: &mut [u8]) -> Reply
-    ensures { RepliesAs (DisjointEnds left.now right.now) out.old out.new result }
+/// Refuses, at the first argument before the second, a text that is not a marker, at the byte where it stops
+/// being one, and then more nodes. Status 3 when memory runs out.
+pub fn markers_disjoint(
+    alloc: Global,
+    left: &[u8],
+    right: &[u8],
+    nodes: usize,
+    out: &mut [u8],
+) -> Reply
+    ensures { RepliesAs (DisjointEnds nodes left.now right.now) out.old out.new result }
 {
-    disjoint(alloc, left, right).reply(out)
+    disjoint(alloc, left, right, nodes).reply(out)
 }
 
 /// How the call ends.
-fn disjoint(alloc: Global, left: &[u8], right: &[u8]) -> Ended
-    ensures { DisjointEnds left.now right.now (ending_of result) }
+fn disjoint(alloc: Global, left: &[u8], right: &[u8], nodes: usize) -> Ended
+    ensures { DisjointEnds nodes left.now right.now (ending_of result) }
 {
-    let mut interner = Interner::new(alloc);
-    match read_two(alloc, &mut interner, left, right) {
+    let mut interner = Interner::with_most(alloc, nodes);
+    match read_two(alloc, &mut interner, left, right, nodes) {
         Ok(trees) => said_whether(alloc, trees.0.is_disjoint(alloc, &interner, trees.1)),
         Err(ended) => ended,
     }
@@ -48,20 +55,25 @@ fn disjoint(alloc: Global, left: &[u8], right: &[u8]) -> Ended
 ///
 /// # Errors
 ///
-/// Refuses a text that is not a marker, the first argument before the second, at the byte where it stops
-/// being one. Status 3 when memory runs out.
-pub fn marker_implies(alloc: Global, left: &[u8], right: &[u8], out: &mut [u8]) -> Reply
-    ensures { RepliesAs (ImpliesEnds left.now right.now) out.old out.new result }
+/// Refuses what `markers_disjoint` does. Status 3 when memory runs out.
+pub fn marker_implies(
+    alloc: Global,
+    left: &[u8],
+    right: &[u8],
+    nodes: usize,
+    out: &mut [u8],
+) -> Reply
+    ensures { RepliesAs (ImpliesEnds nodes left.now right.now) out.old out.new result }
 {
-    implied(alloc, left, right).reply(out)
+    implied(alloc, left, right, nodes).reply(out)
 }
 
 /// How the call ends.
-fn implied(alloc: Global, left: &[u8], right: &[u8]) -> Ended
-    ensures { ImpliesEnds left.now right.now (ending_of result) }
+fn implied(alloc: Global, left: &[u8], right: &[u8], nodes: usize) -> Ended
+    ensures { ImpliesEnds nodes left.now right.now (ending_of result) }
 {
-    let mut interner = Interner::new(alloc);
-    match read_two(alloc, &mut interner, left, right) {
+    let mut interner = Interner::with_most(alloc, nodes);
+    match read_two(alloc, &mut interner, left, right, nodes) {
         Ok(trees) => said_whether(alloc, implies(alloc, &interner, trees.0, trees.1)),
         Err(ended) => ended,
     }
@@ -88,21 +100,24 @@ fn implies(
 ///
 /// # Errors
 ///
-/// How the call ends: refused for the first argument that is not a marker, or out of memory.
+/// How the call ends: refused for the first argument that is not a marker or makes more than `most` nodes, or
+/// out of memory.
 fn read_two(
     alloc: Global,
     interner: &mut Interner,
     left: &[u8],
     right: &[u8],
+    most: usize,
 ) -> Result<(MarkerTree, MarkerTree), Ended>
     ensures first { IfOk result (λ trees. IsMarkerTree interner.new.nodes left.now trees.0) }
     ensures second { IfOk result (λ trees. IsMarkerTree interner.new.nodes right.now trees.1) }
+    ensures few { IfOk result (λ trees. AreFew most interner.new.nodes) }
     ensures none { IfErr result (λ ended.
-        EndsIn NoAnswer (RefusesEither left.now right.now) (ending_of ended)) }
+        EndsIn NoAnswer (RefusesEither most left.now right.now) (ending_of ended)) }
 {
     earlier_trees_keep();
-    let first = read_marker(alloc, interner, 1, left)?;
-    let second = read_marker(alloc, interner, 2, right)?;
+    let first = read_marker(alloc, interner, 1, left, most)?;
+    let second = read_marker(alloc, interner, 2, right, most)?;
     Ok((first, second))
 }
 

@@ -14,23 +14,25 @@ use std::alloc::Global;
 /// Replies with `1` if the marker holds under every valuation, and so in every environment with any extras,
 /// with `0` if it holds under none, and otherwise with `-`.
 ///
-/// Linear in the text except for combining the marker's trees, after which the answer takes constant time.
+/// Linear in the text except for combining the marker's trees, which may have at most `nodes` nodes together
+/// and may otherwise grow exponentially with the text. After that the answer takes constant time.
 ///
 /// # Errors
 ///
-/// Refuses a text that is not a marker, at the byte where it stops being one. Status 3 when memory runs out.
-pub fn marker_truth(alloc: Global, bytes: &[u8], out: &mut [u8]) -> Reply
-    ensures { RepliesAs (TruthEnds bytes.now) out.old out.new result }
+/// Refuses a text that is not a marker, at the byte where it stops being one, and then a marker with more
+/// nodes. Status 3 when memory runs out.
+pub fn marker_truth(alloc: Global, bytes: &[u8], nodes: usize, out: &mut [u8]) -> Reply
+    ensures { RepliesAs (TruthEnds nodes bytes.now) out.old out.new result }
 {
-    truth(alloc, bytes).reply(out)
+    truth(alloc, bytes, nodes).reply(out)
 }
 
 /// How the call ends.
-fn truth(alloc: Global, bytes: &[u8]) -> Ended
-    ensures { TruthEnds bytes.now (ending_of result) }
+fn truth(alloc: Global, bytes: &[u8], nodes: usize) -> Ended
+    ensures { TruthEnds nodes bytes.now (ending_of result) }
 {
-    let mut interner = Interner::new(alloc);
-    match read_marker(alloc, &mut interner, 1, bytes) {
+    let mut interner = Interner::with_most(alloc, nodes);
+    match read_marker(alloc, &mut interner, 1, bytes, nodes) {
         Ok(tree) => said(alloc, truth_of(&interner, tree)),
         Err(ended) => ended,
     }

@@ -10,7 +10,7 @@ use crate::bounds::{lower_bound, read_bound, upper_bound};
 use pep440_version::Version;
 use pep508_simplification::MarkerTreeSimplification;
 use pep508_tree::{Interner, MarkerTree};
-use reqs_c_markers::{normal_text, read_marker};
+use reqs_c_markers::{Bounds, normal_text, read_marker, tree_within};
 use reqs_c_reply::{Ended, Reply};
 use std::alloc::Global;
 
@@ -19,31 +19,33 @@ use std::alloc::Global;
 /// bounds the text holds exactly where the marker does, and it tests `python_full_version` no more than that
 /// needs.
 ///
-/// Compares each boundary of a version of Python with both bounds. Needs exponential time in the text at
-/// worst, as the normal text's length is then exponential.
+/// Compares each boundary of a version of Python with both bounds. Needs time and memory for as many nodes and
+/// clauses as `bounds` allow, and both may grow exponentially with the text.
 ///
 /// # Errors
 ///
-/// Refuses, in this order: a text that is not a marker, a bound that is not a version, and a marker without a
-/// normal text, as `reqs_c_markers::marker` does. Status 3 when memory runs out.
+/// Refuses, in this order: a text that is not a marker; a marker with more nodes than the bound; a bound that
+/// is not a version; more nodes, once it is simplified; and a simplified marker without a normal text, or with
+/// more clauses than the bound, as `reqs_c_markers::marker` does. Status 3 when memory runs out.
 pub fn marker_simplify_python(
     alloc: Global,
     bytes: &[u8],
     lower: &[u8],
     upper: &[u8],
+    bounds: Bounds,
     out: &mut [u8],
 ) -> Reply
-    ensures { RepliesAs (SimplifiedPythonEnds bytes.now lower.now upper.now) out.old out.new result }
+    ensures { RepliesAs (SimplifiedPythonEnds bounds bytes.now lower.now upper.now) out.old out.new result }
 {
-    simplified(alloc, bytes, lower, upper).reply(out)
+    simplified(alloc, bytes, lower, upper, bounds).reply(out)
 }
 
 /// How the call ends.
-fn simplified(alloc: Global, bytes: &[u8], lower: &[u8], upper: &[u8]) -> Ended
-    ensures { SimplifiedPythonEnds bytes.now lower.now upper.now (ending_of result) }
+fn simplified(alloc: Global, bytes: &[u8], lower: &[u8], upper: &[u8], bounds: Bounds) -> Ended
+    ensures { SimplifiedPythonEnds bounds bytes.now lower.now upper.now (ending_of result) }
 {
-    let mut interner = Interner::new(alloc);
-    let tree = match read_marker(alloc, &mut interner, 1, bytes) {
+    let mut interner = Interner::with_most(alloc, bounds.nodes);
+    let tree = match read_marker(alloc, &mut interner, 1, bytes, bounds.nodes) {
         Ok(tree) => tree,
         Err(ended) => return ended,
     };
@@ -52,7 +54,7 @@ fn simplified(alloc: Global, bytes: &[u8], lower: &[u8], upper: &[u8]) -> Ended
         Err(ended) => return ended,
     };
     match read_bound(alloc, 3, upper) {
-        Ok(end) => text_between(alloc, &mut interner, tree, &least, &end),
+        Ok(end) => text_between(alloc, &mut interner, tree, &least, &end, bounds),
         Err(ended) => ended,
     }
 }
@@ -64,15 +66,17 @@ fn text_between(
     tree: MarkerTree,
     least: &Option<Version>,
     end: &Option<Version>,
+    bounds: Bounds,
 ) -> Ended
     requires { IsTree interner.old.nodes tree }
     ensures { (bytes : List ℕ) → IsMarkerTree interner.old.nodes bytes tree →
-        TextEnds bytes (HoldsBetween least.now end.now) (ending_of result) }
+        TextEnds bounds bytes (HoldsBetween least.now end.now) (ending_of result) }
 {
     let lower = lower_bound(least);
     let upper = upper_bound(end);
-    match tree.simplify_python_versions(alloc, interner, lower, upper) {
-        Ok(simple) => normal_text(alloc, interner, simple),
-        Err(_) => Ended::OutOfMemory,
+    let made = tree.simplify_python_versions(alloc, interner, lower, upper);
+    match tree_within(alloc, interner, 1, bounds.nodes, made) {
+        Ok(simple) => normal_text(alloc, interner, simple, bounds.clauses),
+        Err(ended) => ended,
     }
 }

@@ -5,6 +5,8 @@ use Rattle.std.specs.Io.KnownBytes.{Appends}
 use Rattle.std.specs.List.{AllZip}
 use Rattle.std.specs.Str.{is_utf8}
 use Rattle.pep508_url.specs.Vars.{Variables}
+use Rattle.pep508_tree.specs.Meaning.{NodeRecord}
+use Rattle.pep508_tree.specs.Nodes.{AreSound}
 use Rattle.reqs_io.specs.Front.{AreAsTold}
 use Rattle.reqs_io_faults.specs.declared.fault.RunFault.{RunFault}
 use Rattle.reqs_io_faults.specs.declared.fault.RunFault.TheVariants as faults
@@ -17,7 +19,7 @@ use Rattle.reqs_c_reply.specs.declared.place.Place.{Place}
 use Rattle.reqs_c_reply.specs.Lines.{filled_lines}
 use Rattle.reqs_c_markers.specs.Parts.{no_variables}
 use Rattle.reqs_c_lists.specs.Refusals.{IsToldAt}
-use Rattle.reqs_c_lists.specs.Commands.{RefusesInputs, CommandEnds, WithExtras, TellsRun}
+use Rattle.reqs_c_lists.specs.Commands.{RefusesInputs, CommandEnds, RefusesOfNodes, WithNodes, WithExtras, TellsRun}
 
 -- readers that tell their texts have those
 all_told : (inputs read : List (List ℕ)) → AllZip AreAsTold (map Some inputs) read → read ≡ inputs
@@ -70,6 +72,22 @@ module _ (Answers : Answering) (Refuses : Refusing) (names : List (List ℕ)) (e
     at_hand ending runs t =
         let P : List (List ℕ) → Type 0 = λ all. EndsAs Answers Refuses all contents old new ran in
         by_ending ending (subst P (all_told inputs runs.inputs runs.are_told) runs.ends) t
+
+-- with the nodes that it made
+module _ (Answers : List NodeRecord → Answering) (Refuses : List NodeRecord → Refusing)
+    (Tells : RunFault → Place → List ℕ → Type 0) (inputs : List (List ℕ)) (nodes : List NodeRecord)
+    (sound : AreSound nodes) where
+  refused_so : (fault : RunFault) → RefusesInputs (Refuses nodes) inputs fault
+      → RefusesInputs (RefusesOfNodes Refuses) inputs fault
+  refused_so (faults.TooLong input) h = h
+  refused_so fault h = (h.0, (nodes, sound, h.1))
+
+  pub of_nodes : (ending : Ending) → CommandEnds (Answers nodes) (Refuses nodes) Tells inputs ending
+      → WithNodes Answers Refuses Tells inputs ending
+  of_nodes (Answered text) h = (h.0, (nodes, sound, h.1))
+  of_nodes (Different text) h = (h.0, (nodes, sound, h.1))
+  of_nodes (Refused place message) h = (h.0, refused_so h.0 h.1, h.2)
+  of_nodes OutOfMemory h = tt
 
 -- with no variables, and the extras of an argument's lines
 pub with_extras : (argument : ℕ) (Ends : Variables → List (List ℕ) → Ending → Type 0) (bytes : List ℕ) (vars : Variables)

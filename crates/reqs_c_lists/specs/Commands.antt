@@ -8,11 +8,16 @@ use Rattle.reqs_io_faults.specs.declared.fault.Status.{Status}
 use Rattle.reqs_io_faults.specs.declared.fault.Status.TheVariants as status
 use Rattle.reqs_io_faults.specs.Ends.{Answering, Refusing, AreWithin, place_of, of_input}
 use Rattle.reqs_json.specs.declared.format.Format.{Format}
-use Rattle.reqs_lists.specs.Comparison.{SameAnswersAs, SameRefuses}
-use Rattle.reqs_lists.specs.Contradictions.{ConflictsAnswerAs, ConflictsRefuse}
-use Rattle.reqs_lists.specs.Normal.{NormalAnswersAs, NormalRefuses}
+use Rattle.reqs_io_faults.specs.declared.bounds.Bounds.{Bounds}
+use Rattle.reqs_io_faults.specs.Within.{RefusesOr}
+use Rattle.reqs_lists.specs.Comparison.{SameAnswersWithin, SamePasses, SameRefusesWithin}
+use Rattle.reqs_lists.specs.Contradictions.{ConflictsAnswerWithin, ConflictsPass, ConflictsRefuseWithin}
+use Rattle.reqs_lists.specs.Normal.{NormalAnswersWithin, NormalPasses, NormalRefusesWithin}
 use Rattle.reqs_answers.specs.Check.{ChecksAs, CheckRefuses}
-use Rattle.reqs_answers.specs.Matrix.{MatrixAnswersAs, MatrixRefuses}
+use Rattle.reqs_answers.specs.Matrix.{MatrixAnswersWithin, MatrixPasses, MatrixRefusesWithin}
+use Rattle.pep508_url.specs.Vars.{Variables}
+use Rattle.pep508_tree.specs.Meaning.{NodeRecord}
+use Rattle.pep508_tree.specs.Nodes.{AreSound}
 use Rattle.reqs_c_reply.specs.declared.place.Place.{Place}
 use Rattle.reqs_c_reply.specs.Endings.{Ending, Answered, Different, Refused, OutOfMemory}
 use Rattle.reqs_c_reply.specs.Endings.{EndsIn, NoAnswer, IsNotText}
@@ -38,6 +43,21 @@ CommandEnds Answers Refuses Tells inputs (Different text) =
 CommandEnds Answers Refuses Tells inputs (Refused place message) =
     (fault : RunFault) × RefusesInputs Refuses inputs fault × Tells fault place message
 CommandEnds Answers Refuses Tells inputs OutOfMemory = Unit {0}
+
+-- what may be answered, and the faults for which inputs may be refused, where some nodes are made, no two of
+-- which are equal
+abbrev pub AnswersOfNodes : (List NodeRecord → Answering) → Answering
+AnswersOfNodes Answers inputs ended text =
+    (nodes : List NodeRecord) × AreSound nodes × Answers nodes inputs ended text
+
+abbrev pub RefusesOfNodes : (List NodeRecord → Refusing) → Refusing
+RefusesOfNodes Refuses inputs fault =
+    (nodes : List NodeRecord) × AreSound nodes × Refuses nodes inputs fault
+
+-- how a command ends, by what it may answer and refuse with the nodes that it made
+abbrev pub WithNodes : (List NodeRecord → Answering) → (List NodeRecord → Refusing)
+    → (RunFault → Place → List ℕ → Type 0) → List (List ℕ) → Ending → Type 0
+WithNodes Answers Refuses = CommandEnds (AnswersOfNodes Answers) (RefusesOfNodes Refuses)
 
 -- how a call ends with the extras on the lines of an argument; or the argument is not UTF-8, or memory ran
 -- out
@@ -71,34 +91,48 @@ abbrev pub CheckEnds : Format → List ℕ → List ℕ → List ℕ → List �
 CheckEnds format requirements environment candidates =
     WithExtras 4 (ChecksInputs format (requirements ∷ environment ∷ candidates ∷ []))
 
--- `reqs matrix`
-abbrev pub TablesInputs : Format → ℕ → List (List ℕ) → List (List ℕ) → Ending → Type 0
-TablesInputs format limit inputs extras =
-    CommandEnds (MatrixAnswersAs format limit no_variables extras)
-    (MatrixRefuses limit no_variables extras)
+-- `reqs matrix` within bounds, with these variables and extras
+abbrev pub TablesWith : Format → ℕ → Bounds → List (List ℕ) → Variables → List (List ℕ) → Ending → Type 0
+TablesWith format limit bounds inputs vars extras =
+    WithNodes (λ nodes. MatrixAnswersWithin bounds nodes format limit vars extras)
+    (λ nodes. RefusesOr (MatrixPasses bounds nodes limit vars extras)
+    (MatrixRefusesWithin bounds limit vars extras))
     (IsToldAt matrix_names 4) inputs
 
-abbrev pub MatrixEnds : Format → ℕ → List ℕ → List ℕ → List ℕ → List ℕ → Ending → Type 0
-MatrixEnds format limit requirements environments candidates =
-    WithExtras 4 (TablesInputs format limit (requirements ∷ environments ∷ candidates ∷ []))
+abbrev pub MatrixEnds : Format → ℕ → Bounds → List ℕ → List ℕ → List ℕ → List ℕ → Ending → Type 0
+MatrixEnds format limit bounds requirements environments candidates =
+    WithExtras 4 (TablesWith format limit bounds (requirements ∷ environments ∷ candidates ∷ []) no_variables)
 
--- `reqs same`
-abbrev pub SameEnds : Format → ℕ → List ℕ → List ℕ → Ending → Type 0
-SameEnds format limit left right =
-    CommandEnds (SameAnswersAs format limit no_variables) (SameRefuses limit no_variables)
-    (IsToldAt same_names 0) (left ∷ right ∷ [])
+-- `reqs same` within bounds
+abbrev pub SameEndsWith : Format → ℕ → Bounds → Variables → List (List ℕ) → Ending → Type 0
+SameEndsWith format limit bounds vars =
+    WithNodes (λ nodes. SameAnswersWithin bounds nodes format limit vars)
+    (λ nodes. RefusesOr (SamePasses bounds nodes limit vars) (SameRefusesWithin bounds limit vars))
+    (IsToldAt same_names 0)
 
--- `reqs conflicts`
-abbrev pub ConflictsEnd : Format → ℕ → List ℕ → Ending → Type 0
-ConflictsEnd format limit requirements =
-    CommandEnds (ConflictsAnswerAs format limit no_variables) (ConflictsRefuse limit no_variables)
-    (IsToldAt list_names 0) (requirements ∷ [])
+abbrev pub SameEnds : Format → ℕ → Bounds → List ℕ → List ℕ → Ending → Type 0
+SameEnds format limit bounds left right = SameEndsWith format limit bounds no_variables (left ∷ right ∷ [])
 
--- `reqs normal`
-abbrev pub NormalEnds : Format → List ℕ → Ending → Type 0
-NormalEnds format requirements =
-    CommandEnds (NormalAnswersAs format no_variables) (NormalRefuses no_variables)
-    (IsToldAt list_names 0) (requirements ∷ [])
+-- `reqs conflicts` within bounds
+abbrev pub ConflictsEndWith : Format → ℕ → Bounds → Variables → List (List ℕ) → Ending → Type 0
+ConflictsEndWith format limit bounds vars =
+    WithNodes (λ nodes. ConflictsAnswerWithin bounds nodes format limit vars)
+    (λ nodes. RefusesOr (ConflictsPass bounds nodes limit vars) (ConflictsRefuseWithin bounds limit vars))
+    (IsToldAt list_names 0)
+
+abbrev pub ConflictsEnd : Format → ℕ → Bounds → List ℕ → Ending → Type 0
+ConflictsEnd format limit bounds requirements =
+    ConflictsEndWith format limit bounds no_variables (requirements ∷ [])
+
+-- `reqs normal` within bounds
+abbrev pub NormalEndsWith : Format → Bounds → Variables → List (List ℕ) → Ending → Type 0
+NormalEndsWith format bounds vars =
+    WithNodes (λ nodes. NormalAnswersWithin bounds nodes format vars)
+    (λ nodes. RefusesOr (NormalPasses bounds nodes vars) (NormalRefusesWithin bounds vars))
+    (IsToldAt list_names 0)
+
+abbrev pub NormalEnds : Format → Bounds → List ℕ → Ending → Type 0
+NormalEnds format bounds requirements = NormalEndsWith format bounds no_variables (requirements ∷ [])
 
 -- ---- the result of a command
 

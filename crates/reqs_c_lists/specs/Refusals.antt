@@ -1,5 +1,7 @@
 -- The messages and places for texts that a command refuses.
 use Rattle.std.specs.Prelude.{◌≡◌, ℕ, List, IfSome}
+use Rattle.reqs_io_faults.specs.declared.bounds.Excess.{Excess}
+use Rattle.reqs_io_faults.specs.declared.bounds.Excess.TheVariants as passed
 use Rattle.reqs_io_faults.specs.declared.fault.Input.{Input}
 use Rattle.reqs_io_faults.specs.declared.fault.Input.TheVariants.{First, Second, Third}
 use Rattle.reqs_io_faults.specs.declared.fault.RunFault.{RunFault}
@@ -24,6 +26,14 @@ whole argument = span argument 0 0
 abbrev pub in_line : ℕ → ℕ → ℕ → ℕ → Place
 in_line argument line start len = record { input = argument; line = line; start = start; len = len }
 
+-- the place of what there is too much of: a line, or an argument; none where more than one has its part in it
+abbrev pub excess_place : Excess → Place
+excess_place (passed.NodesAt input number most) = in_line (argument_of input) number 0 0
+excess_place (passed.Nodes most) = nowhere
+excess_place (passed.ClausesAt input number most) = in_line (argument_of input) number 0 0
+excess_place (passed.ClausesFor name most) = nowhere
+excess_place (passed.Cases input most) = whole (argument_of input)
+
 -- the place of a fault, where the argument of this number has the extras
 abbrev pub place_told : ℕ → RunFault → Place
 place_told extras (faults.Read input) = whole (argument_of input)
@@ -43,6 +53,7 @@ place_told extras (faults.Member input index name) = whole (argument_of input)
 place_told extras (faults.Version input index name) = whole (argument_of input)
 place_told extras (faults.Candidate input number cause) = in_line (argument_of input) number 0 0
 place_told extras (faults.TooManyCases input limit name) = whole (argument_of input)
+place_told extras (faults.TooMany excess) = excess_place excess
 
 -- a fault that refuses an input is reported at its place by a message, in which inputs have these names; of a
 -- message of the crate `url` only the start is claimed

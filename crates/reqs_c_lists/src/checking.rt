@@ -2,16 +2,17 @@
 
 ghost use Rattle.std.specs.Prelude.{◌∷◌, [], map};
 ghost use Rattle.reqs_answers.specs.Check.{ChecksAs, CheckRefuses};
-ghost use Rattle.reqs_answers.specs.Matrix.{MatrixAnswersAs, MatrixRefuses};
 ghost use Rattle.reqs_c_reply.specs.Endings.{RepliesAs, ending_of};
 ghost use Rattle.reqs_c_lists.specs.Commands.{CommandEnds, CheckEnds, MatrixEnds};
-ghost use Rattle.reqs_c_lists.specs.Commands.{check_names, matrix_names};
+ghost use Rattle.reqs_c_lists.specs.Commands.{TablesWith, check_names};
 ghost use Rattle.reqs_c_lists.specs.Refusals.{IsToldAt};
 
 use crate::ending::ended;
+use pep508_tree::Interner;
 use pep508_url::Vars;
 use reqs_c_markers::no_variables;
 use reqs_c_reply::{Ended, Reply, filled_lines, text_of};
+use reqs_io_faults::Bounds;
 use reqs_json::Format;
 use std::alloc::Global;
 
@@ -111,14 +112,14 @@ fn checked_with(
     ended(alloc, ran, text, &CHECK_NAMES, EXTRAS)
 }
 
-/// Replies with what `reqs::matrix` writes in this format, with at most `limit` cases for a package. `extras`
-/// has one extra per line; empty lines are skipped. Needs memory for copies of the inputs, in addition to
-/// what the command needs.
+/// Replies with what `reqs::matrix` writes in this format, with at most `limit` cases for a package and within
+/// the bounds, of which those on nodes and cases matter. `extras` has one extra per line; empty lines are
+/// skipped. Needs memory for copies of the inputs, in addition to what the command needs.
 ///
 /// # Errors
 ///
-/// Refuses what `reqs::matrix` does, with its message as text and the place of what is wrong. Status 3 when
-/// memory runs out.
+/// Refuses what `reqs_answers::matrix_within` does, with its message as text and the place of what is wrong.
+/// Status 3 when memory runs out.
 pub fn matrix(
     alloc: Global,
     requirements: &[u8],
@@ -126,11 +127,12 @@ pub fn matrix(
     candidates: &[u8],
     extras: &[u8],
     limit: u64,
+    bounds: Bounds,
     format: Format,
     out: &mut [u8],
 ) -> Reply
-    ensures { RepliesAs (MatrixEnds format limit requirements.now environments.now candidates.now extras.now)
-        out.old out.new result }
+    ensures { RepliesAs (MatrixEnds format limit bounds requirements.now environments.now candidates.now
+        extras.now) out.old out.new result }
 {
     tabled(
         alloc,
@@ -139,6 +141,7 @@ pub fn matrix(
         candidates,
         extras,
         limit,
+        bounds,
         format,
     )
     .reply(out)
@@ -152,9 +155,10 @@ fn tabled(
     candidates: &[u8],
     extras: &[u8],
     limit: u64,
+    bounds: Bounds,
     format: Format,
 ) -> Ended
-    ensures { MatrixEnds format limit requirements.now environments.now candidates.now extras.now
+    ensures { MatrixEnds format limit bounds requirements.now environments.now candidates.now extras.now
         (ending_of result) }
 {
     let extras = match text_of(alloc, EXTRAS, extras) {
@@ -173,8 +177,9 @@ fn tabled(
         environments,
         candidates,
         &extras,
-        &vars,
         limit,
+        bounds,
+        &vars,
         format,
     )
 }
@@ -186,21 +191,22 @@ fn tabled_with(
     environments: &[u8],
     candidates: &[u8],
     extras: &[&str],
-    vars: &Vars,
     limit: u64,
+    bounds: Bounds,
+    vars: &Vars,
     format: Format,
 ) -> Ended
-    ensures { CommandEnds (MatrixAnswersAs format limit vars.now (map (λ e. e.now) extras.now))
-        (MatrixRefuses limit vars.now (map (λ e. e.now) extras.now)) (IsToldAt matrix_names 4)
-        (requirements.now ∷ environments.now ∷ candidates.now ∷ []) (ending_of result) }
+    ensures { TablesWith format limit bounds (requirements.now ∷ environments.now ∷ candidates.now ∷ [])
+        vars.now (map (λ e. e.now) extras.now) (ending_of result) }
 {
     let (mut requirements, mut environments, mut candidates) = (
         requirements,
         environments,
         candidates,
     );
+    let mut interner = Interner::with_most(alloc, bounds.nodes);
     let mut text = Vec::new(alloc);
-    let ran = reqs_answers::matrix(
+    let ran = reqs_answers::matrix_within(
         alloc,
         &mut requirements,
         &mut environments,
@@ -209,7 +215,10 @@ fn tabled_with(
         vars,
         limit,
         format,
+        bounds,
+        &mut interner,
         &mut text,
     );
+    interner.are_sound();
     ended(alloc, ran, text, &MATRIX_NAMES, EXTRAS)
 }

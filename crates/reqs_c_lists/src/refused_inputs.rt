@@ -2,10 +2,10 @@
 
 ghost use Rattle.std.specs.Prelude.{◌≡◌, map};
 ghost use Rattle.reqs_c_reply.specs.Endings.{EndsIn, NoAnswer, ending_of};
-ghost use Rattle.reqs_c_lists.specs.Refusals.{argument_of, place_told, in_line, IsToldAt};
+ghost use Rattle.reqs_c_lists.specs.Refusals.{argument_of, excess_place, place_told, in_line, IsToldAt};
 
 use reqs_c_reply::{Ended, Place};
-use reqs_io_faults::{Input, RunFault};
+use reqs_io_faults::{Excess, Input, RunFault};
 use std::alloc::Global;
 
 /// The end of a call whose inputs, which have these names, are refused for a fault, or for which memory ran
@@ -43,6 +43,20 @@ fn place_told(fault: &RunFault, extras: u32) -> Place
         | RunFault::Member { input, .. }
         | RunFault::Version { input, .. }
         | RunFault::TooManyCases { input, .. } => Place::span(argument_of(*input), 0, 0),
+        RunFault::TooMany(excess) => excess_place(excess),
+    }
+}
+
+/// The place of what there is too much of.
+fn excess_place(excess: &Excess) -> Place
+    ensures { result ≡ excess_place excess.now }
+{
+    match excess {
+        Excess::NodesAt { input, number, .. } => in_line(*input, *number, 0, 0),
+        Excess::ClausesAt { input, number, .. } => in_line(*input, *number, 0, 0),
+        Excess::Nodes { .. } => Place::nowhere(),
+        Excess::ClausesFor { .. } => Place::nowhere(),
+        Excess::Cases { input, .. } => Place::span(argument_of(*input), 0, 0),
     }
 }
 

@@ -3,6 +3,7 @@ pub mod Names
 pub mod Told
 pub mod Refusals
 pub mod NormalTexts
+pub mod Within
 pub mod Places
 pub mod ReadBack
 pub mod Marks

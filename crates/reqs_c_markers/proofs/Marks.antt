@@ -4,29 +4,18 @@ use Rattle.std.proofs.Common.{Result, Ok, Err, IfOk, OnOk, ap, refl, sym}
 use Rattle.std.proofs.lemmas.Str.{is_utf8-from_IsUtf8}
 use Rattle.std.specs.Str.{is_utf8, IsUtf8, chars}
 use Rattle.pep508_diagram.specs.Question.{Valuation}
-use Rattle.pep508_tree.specs.Tree.{Tree}
-use Rattle.pep508_tree.specs.Meaning.{NodeRecord}
 use Rattle.pep508_url.specs.UrlTexts.{Verbatim}
 use Rattle.pep508_url.specs.declared.url_error.VerbatimUrlError.{VerbatimUrlError}
 use Rattle.pep508_error.specs.Errors.{Fault, told_error}
 use Rattle.pep508_marker.specs.Expression.{ExpressionRecord}
-use Rattle.pep508_marker.specs.Warnings.{Warning}
 use Rattle.pep508_expression.specs.Expressions.{expression_holds}
 use Rattle.pep508_comparison_parser.specs.SideReading.{Refused}
 use Rattle.pep508_comparison_parser.specs.Outcome.{Shows}
 use Rattle.pep508_marker_parser.specs.MarkerReading.{Marker, marker_at}
 use Rattle.pep508_marker_parser.specs.Formula.{Formula, formula_holds}
-use Rattle.pep508_marker_parser.specs.TextOutcome.{ReadsMarkerText}
 use Rattle.reqs_c_reply.proofs.Ends.{is_utf8-false}
 use Rattle.reqs_c_markers.specs.Errors.{TextError}
-use Rattle.reqs_c_markers.specs.Markers.{ReadsTree, held_mark, mark_in}
-
--- a reading whose warnings are dropped
-pub reads_tree : {R : Type 0} (takes : R → Warning → R → Type 0) (old new : R) (nodes : List NodeRecord) (text : List ℕ)
-    (read : Result Tree TextError) (reading : Result Marker Refused)
-    → ReadsMarkerText (λ tree. tree) takes old new nodes text read reading → ReadsTree nodes text read reading
-reads_tree takes old new nodes text (Ok tree) reading h = (h.0, h.1, h.2)
-reads_tree takes old new nodes text (Err error) reading h = h
+use Rattle.reqs_c_markers.specs.Markers.{held_mark, mark_in}
 
 -- the mark of a formula's truth is that of its marker
 pub held : (formula : Formula ExpressionRecord) (marker : Marker) (v : Valuation) (reading : Result Marker Refused)

@@ -24,6 +24,7 @@ use Rattle.pep508_reading_back.proofs.ToldAnswers.{formula_alike}
 use Rattle.pep508_reading_back.proofs.ToldMarkers.{written_told}
 use Rattle.pep508_reading_back.proofs.ToldQuestions.{equal_told}
 use Rattle.pep508_reading_back.proofs.Unquoted.{told_is_readable}
+use Rattle.reqs_c_markers.specs.declared.bounds.Bounds.{Bounds}
 use Rattle.reqs_c_markers.specs.declared.normal_texts.TextFault.{TextFault}
 use Rattle.reqs_c_markers.specs.declared.normal_texts.TextFault.TheVariants as faults
 use Rattle.reqs_c_markers.specs.NormalTexts.{IsNormalDiagram, never_holds, text_fault}
@@ -92,9 +93,9 @@ same_values : (text : List ℕ) (a b : Valuation → Bool) → ((v : Valuation) 
     ReadsBack text b
 same_values text a b same h = subst (ReadsBack text) (λ i v. same v i) h
 
-pub own_text : (bytes text : List ℕ) (given : GivesText bytes HoldsAlike text) →
+pub own_text : (bounds : Bounds) (bytes text : List ℕ) (given : GivesText bounds bytes HoldsAlike text) →
     ReadsBack text (marker_holds given.marker)
-own_text bytes text given =
+own_text bounds bytes text given =
     let d = given.is_text.diagram in
     let marker = given.marker in
     let means = given.is_text.wanted in
@@ -103,10 +104,10 @@ own_text bytes text given =
     (reads_back bytes marker given.is_marker d given.is_text.is_normal given.is_text.is_text.no_fault
     (λ v w alike. means v ∙ formula_alike v w marker.formula alike ∙ sym (means w))))
 
-pub one_text : (bytes others text other : List ℕ) (given : GivesText bytes HoldsAlike text)
-    (also : GivesText others HoldsAlike other) →
+pub one_text : (bounds limits : Bounds) (bytes others text other : List ℕ)
+    (given : GivesText bounds bytes HoldsAlike text) (also : GivesText limits others HoldsAlike other) →
     ((v : Valuation) → marker_holds given.marker v ≡ marker_holds also.marker v) → text ≡ other
-one_text bytes others text other given also same =
+one_text bounds limits bytes others text other given also same =
     let a = given.is_text in
     let b = also.is_text in
     let one : a.diagram ≡ b.diagram =

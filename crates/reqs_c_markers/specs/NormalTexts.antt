@@ -1,10 +1,12 @@
 -- Normal texts of markers (PEP 508, "Environment Markers"), and which markers have none.
-use Rattle.std.specs.Prelude.{◌≡◌, ℕ, Bool, false, not, if◌then◌else◌, List, [], ◌++◌, codes, unwrap_or}
-use Rattle.std.specs.Prelude.{Option, Some, None}
+use Rattle.std.specs.Prelude.{◌≡◌, ◌⊎◌, ◌<◌, ◌≤◌, ℕ, Bool, false, not, if◌then◌else◌, List, [], ◌++◌, codes}
+use Rattle.std.specs.Prelude.{unwrap_or, Option, Some, None}
+use Rattle.std.specs.Fmt.{decimal}
 use Rattle.pep508_diagram.specs.Diagram.{Diagram, Leaf, Test}
 use Rattle.pep508_diagram.specs.Question.{Question, Valuation, truth, IsCanonical}
 use Rattle.pep508_diagram.specs.Shortened.{HasShortVersions}
 use Rattle.pep508_marker_text_laws.specs.MarkerText.{marker_text}
+use Rattle.pep508_marker_display.specs.Counted.{clause_count}
 use Rattle.pep508_questions.specs.Asks.{asks_any, has_quote, is_of_deprecated_key, is_other_bound}
 use Rattle.reqs_c_reply.specs.declared.place.Place.{Place}
 use Rattle.reqs_c_reply.specs.Endings.{Ending, EndsIn, span}
@@ -41,9 +43,11 @@ text_fault_words NeverHolds = codes "never holds"
 
 -- ---- the text
 
--- the text is the normal one of a marker with this diagram, empty if that always holds
-pub record IsTextOfDiagram (diagram : Diagram Question) (text : List ℕ) : Type 0 where
+-- the text is the normal one of a marker with this diagram, empty if that always holds, and the diagram has
+-- at most so many clauses
+pub record IsTextOfDiagram (most : ℕ) (diagram : Diagram Question) (text : List ℕ) : Type 0 where
   pub no_fault : text_fault diagram ≡ None
+  pub few : clause_count diagram ≤ most
   pub is_text : text ≡ unwrap_or (marker_text diagram) []
 
 -- a marker with this diagram has no normal text, and the message is the reason; the place is the first
@@ -54,23 +58,36 @@ pub record HasNoText (diagram : Diagram Question) (place : Place) (message : Lis
   pub stands : place ≡ span 1 0 0
   pub says : message ≡ codes "no normal text: " ++ text_fault_words fault
 
--- how a call for the normal text of a diagram ends
-abbrev pub DiagramEnds : Diagram Question → Ending → Type 0
-DiagramEnds diagram = EndsIn (IsTextOfDiagram diagram) (HasNoText diagram)
+-- a marker with this diagram has a normal text, but the diagram more than so many clauses
+pub record HasMoreClauses (most : ℕ) (diagram : Diagram Question) (place : Place) (message : List ℕ)
+    : Type 0 where
+  pub no_fault : text_fault diagram ≡ None
+  pub more : most < clause_count diagram
+  pub stands : place ≡ span 1 0 0
+  pub says : message ≡ codes "more than " ++ (decimal most ++ codes " clauses")
+
+abbrev pub LacksText : ℕ → Diagram Question → Place → List ℕ → Type 0
+LacksText most diagram place message =
+    HasNoText diagram place message ⊎ HasMoreClauses most diagram place message
+
+-- how a call for the normal text of a diagram with at most so many clauses ends
+abbrev pub DiagramEnds : ℕ → Diagram Question → Ending → Type 0
+DiagramEnds most diagram = EndsIn (IsTextOfDiagram most diagram) (LacksText most diagram)
 
 -- ---- by meaning
 
 -- the text is the normal one of a marker with values that are wanted
-pub record IsTextOf (IsWanted : (Valuation → Bool) → Type 0) (text : List ℕ) : Type 0 where
+pub record IsTextOf (most : ℕ) (IsWanted : (Valuation → Bool) → Type 0) (text : List ℕ) : Type 0 where
   pub diagram : Diagram Question
   pub is_normal : IsNormalDiagram diagram
   pub wanted : IsWanted (truth diagram)
-  pub is_text : IsTextOfDiagram diagram text
+  pub is_text : IsTextOfDiagram most diagram text
 
--- a marker with values that are wanted has no normal text, and the message is the reason
-pub record IsNoTextOf (IsWanted : (Valuation → Bool) → Type 0) (place : Place) (message : List ℕ)
+-- a marker with values that are wanted has no normal text of at most so many clauses, and the message is the
+-- reason
+pub record IsNoTextOf (most : ℕ) (IsWanted : (Valuation → Bool) → Type 0) (place : Place) (message : List ℕ)
     : Type 0 where
   pub diagram : Diagram Question
   pub is_normal : IsNormalDiagram diagram
   pub wanted : IsWanted (truth diagram)
-  pub has_none : HasNoText diagram place message
+  pub has_none : LacksText most diagram place message

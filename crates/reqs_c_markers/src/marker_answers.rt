@@ -6,16 +6,18 @@ ghost use Rattle.pep508_evaluation.specs.Valuations.{valuation_of};
 ghost use Rattle.pep508_error.specs.Errors.{told_error};
 ghost use Rattle.pep508_marker_parser.specs.MarkerReading.{marker_at};
 ghost use Rattle.reqs_c_reply.specs.Endings.{EndsIn, NoAnswer, RepliesAs, ending_of};
-ghost use Rattle.reqs_c_markers.specs.Markers.{IsMarkerTree, ReadsTree, RefusesMarker, MarkerEnds};
-ghost use Rattle.reqs_c_markers.specs.Markers.{held_mark, mark_in};
+ghost use Rattle.reqs_c_markers.specs.Markers.{AreFew, CheckedEnds, IsFormulaIn, IsMarkerTree, MarkerEnds};
+ghost use Rattle.reqs_c_markers.specs.Markers.{RefusesMarker, RefusesTree, RefusesTreeOf, held_mark, mark_in};
 
+use crate::bounds::{Bounds, tree_within};
 use crate::normal_texts::normal_text;
 use crate::refused_text::refused;
 use pep508_environment::MarkerEnvironment;
 use pep508_error::{Pep508Error, Pep508ErrorSource};
+use pep508_formula::MarkerFormula;
 use pep508_formula_truth::holds_in;
 use pep508_marker::Silent;
-use pep508_marker_parser::{MarkerTreeReading, parse_formula};
+use pep508_marker_parser::{parse_formula, tree_of};
 use pep508_name::ExtraName;
 use pep508_tree::{Interner, MarkerTree};
 use pep508_url::VerbatimUrl;
@@ -23,29 +25,53 @@ use reqs_c_reply::{Ended, Reply, text_of};
 use std::alloc::{AllocError, Global};
 use std::str;
 
+/// Replies with an empty text if a text is a marker (PEP 508, "Environment Markers"). Makes no tree: linear in
+/// the text, except that n versions which a key is compared with at once need O(n log n) comparisons.
+///
+/// # Errors
+///
+/// Refuses a text that is not a marker, at the byte where it stops being one. Status 3 when memory runs out.
+pub fn marker_check(alloc: Global, bytes: &[u8], out: &mut [u8]) -> Reply
+    ensures { RepliesAs (CheckedEnds bytes.now) out.old out.new result }
+{
+    checked(alloc, bytes).reply(out)
+}
+
+/// The end of the call that only reads.
+fn checked(alloc: Global, bytes: &[u8]) -> Ended
+    ensures { CheckedEnds bytes.now (ending_of result) }
+{
+    match read_formula(alloc, 1, bytes) {
+        Ok(_) => Ended::Answered(Vec::new(alloc)),
+        Err(ended) => ended,
+    }
+}
+
 /// Replies with the normal text of a marker (PEP 508, "Environment Markers"): markers that hold under the
 /// same valuations have the same, and it can be read as such a marker. It is empty if the marker always
 /// holds.
 ///
-/// Needs exponential time in the text at worst, as the normal text's length is then exponential.
+/// Needs time and memory for as many nodes and clauses as `bounds` allow, and both may grow exponentially with
+/// the text.
 ///
 /// # Errors
 ///
-/// Refuses a text that is not a marker, at the byte where it stops being one, and a marker without a normal
-/// text, with the first cause of `TextFault`, in the order of its variants. Status 3 when memory runs out.
-pub fn marker(alloc: Global, bytes: &[u8], out: &mut [u8]) -> Reply
-    ensures { RepliesAs (MarkerEnds bytes.now) out.old out.new result }
+/// Refuses, in this order: a text that is not a marker, at the byte where it stops being one; a marker whose
+/// tree needs more nodes than the bound; one without a normal text, with the first cause of `TextFault`, in the
+/// order of its variants; and one with more clauses than the bound. Status 3 when memory runs out.
+pub fn marker(alloc: Global, bytes: &[u8], bounds: Bounds, out: &mut [u8]) -> Reply
+    ensures { RepliesAs (MarkerEnds bounds bytes.now) out.old out.new result }
 {
-    own_text(alloc, bytes).reply(out)
+    own_text(alloc, bytes, bounds).reply(out)
 }
 
 /// The end of the call that replies with the normal text.
-fn own_text(alloc: Global, bytes: &[u8]) -> Ended
-    ensures { MarkerEnds bytes.now (ending_of result) }
+fn own_text(alloc: Global, bytes: &[u8], bounds: Bounds) -> Ended
+    ensures { MarkerEnds bounds bytes.now (ending_of result) }
 {
-    let mut interner = Interner::new(alloc);
-    match read_marker(alloc, &mut interner, 1, bytes) {
-        Ok(tree) => normal_text(alloc, &interner, tree),
+    let mut interner = Interner::with_most(alloc, bounds.nodes);
+    match read_marker(alloc, &mut interner, 1, bytes, bounds.nodes) {
+        Ok(tree) => normal_text(alloc, &interner, tree, bounds.clauses),
         Err(ended) => ended,
     }
 }
@@ -54,34 +80,43 @@ fn own_text(alloc: Global, bytes: &[u8]) -> Ended
 ///
 /// # Errors
 ///
-/// How the call ends: refused at argument `input` if it is not a marker, or out of memory.
+/// How the call ends: refused at argument `input` if it is not a marker, and then if the interner has more than
+/// `most` nodes; or out of memory.
 pub fn read_marker(
     alloc: Global,
     interner: &mut Interner,
     input: u32,
     bytes: &[u8],
+    most: usize,
 ) -> Result<MarkerTree, Ended>
     ensures tree { IfOk result (IsMarkerTree interner.new.nodes bytes.now) }
-    ensures none { IfErr result (λ ended. EndsIn NoAnswer (RefusesMarker input bytes.now) (ending_of ended)) }
+    ensures few { IfOk result (λ tree. AreFew most interner.new.nodes) }
+    ensures none { IfErr result (λ ended.
+        EndsIn NoAnswer (RefusesTree input most bytes.now) (ending_of ended)) }
+    ensures past { IfErr result (λ ended.
+        EndsIn NoAnswer (RefusesTreeOf input most interner.new.nodes bytes.now) (ending_of ended)) }
     ensures keeps { Extends interner.old.nodes interner.new.nodes }
 {
-    let text = text_of(alloc, input, bytes)?;
-    match read_tree(alloc, interner, text) {
-        Ok(tree) => Ok(tree),
-        Err(error) => Err(refused(alloc, input, &error)),
-    }
+    let formula = read_formula(alloc, input, bytes)?;
+    let made = tree_of(alloc, interner, &formula);
+    tree_within(alloc, interner, input, most, made)
 }
 
-/// The tree of the marker in a text; its warnings are dropped.
-fn read_tree(
-    alloc: Global,
-    interner: &mut Interner,
-    text: &str,
-) -> Result<MarkerTree, Pep508Error<VerbatimUrl>>
-    ensures read { ReadsTree interner.new.nodes text.now result (marker_at (chars text.now)) }
-    ensures keeps { Extends interner.old.nodes interner.new.nodes }
+/// The formula of the marker in an argument; its warnings are dropped.
+///
+/// # Errors
+///
+/// How the call ends: refused at argument `input` if it is not a marker, or out of memory.
+fn read_formula(alloc: Global, input: u32, bytes: &[u8]) -> Result<MarkerFormula, Ended>
+    ensures formula { IfOk result (IsFormulaIn bytes.now) }
+    ensures none { IfErr result (λ ended.
+        EndsIn NoAnswer (RefusesMarker input bytes.now) (ending_of ended)) }
 {
-    MarkerTree::parse_reporter(alloc, interner, text, &mut Silent)
+    let text = text_of(alloc, input, bytes)?;
+    match parse_formula(alloc, text, &mut Silent) {
+        Ok(formula) => Ok(formula),
+        Err(error) => Err(refused(alloc, input, &error)),
+    }
 }
 
 /// The byte `1` if the marker on a line holds in an environment with extras, `0` if it doesn't, `?` if the

@@ -1,16 +1,17 @@
 //! Normal texts of marker trees.
 
-ghost use Rattle.std.specs.Prelude.{◌≡◌, unwrap_or, Some, IfOk, string_bytes, []};
+ghost use Rattle.std.specs.Prelude.{◌≡◌, ◌<◌, unwrap_or, Some, None, IfOk, string_bytes, []};
 ghost use Rattle.pep508_diagram.specs.Diagram.{Diagram};
 ghost use Rattle.pep508_diagram.specs.Question.{Question};
 ghost use Rattle.pep508_tree.specs.Meaning.{IsTree, diagram_of};
 ghost use Rattle.pep508_marker_text_laws.specs.MarkerText.{marker_text};
+ghost use Rattle.pep508_marker_display.specs.Counted.{clause_count};
 ghost use Rattle.pep508_questions.specs.Asks.{asked_by};
 ghost use Rattle.reqs_c_reply.specs.Endings.{EndsIn, NoAnswer, ending_of};
-ghost use Rattle.reqs_c_markers.specs.NormalTexts.{IsNormalDiagram, DiagramEnds, HasNoText};
+ghost use Rattle.reqs_c_markers.specs.NormalTexts.{IsNormalDiagram, DiagramEnds, HasNoText, HasMoreClauses};
 ghost use Rattle.reqs_c_markers.specs.NormalTexts.{never_holds, text_fault, text_fault_words};
 
-use pep508_marker_display::MarkerTreeText;
+use pep508_marker_display::{MarkerTreeText, has_more_clauses};
 use pep508_questions::{Asked, MarkerTreeQuestions};
 use pep508_tree::{Interner, MarkerTree};
 use reqs_c_reply::{Ended, Place};
@@ -45,22 +46,46 @@ impl TextFault {
 }
 
 /// The end of a call that replies with the normal text of a tree, which is empty if the tree always holds, or
-/// refuses the first argument with the reason why there is none.
+/// refuses the first argument with the reason why there is none, or because it has more than `most` clauses.
 ///
-/// Visits each node of the tree once. The text may be exponentially longer than the tree, and is only made if
-/// there is no such reason.
+/// Visits each node of the tree once, and then at most `most + 1` of the paths from its root. The text may be
+/// exponentially longer than the tree, and is only made if there is no such reason.
 #[tactic(auto, using(crate::proofs::Diagrams::normal))]
-pub fn normal_text(alloc: Global, interner: &Interner, tree: MarkerTree) -> Ended
+pub fn normal_text(alloc: Global, interner: &Interner, tree: MarkerTree, most: usize) -> Ended
     requires { IsTree interner.now.nodes tree }
-    ensures ends { DiagramEnds (diagram_of interner.now.nodes tree) (ending_of result) }
+    ensures ends { DiagramEnds most (diagram_of interner.now.nodes tree) (ending_of result) }
     ensures normal { IsNormalDiagram (diagram_of interner.now.nodes tree) }
 {
     interner.are_sound();
     match fault_of(alloc, interner, tree) {
-        Ok(None) => Ended::answered(tree_text(alloc, interner, tree)),
+        Ok(None) => text_within(alloc, interner, tree, most),
         Ok(Some(fault)) => refused_for(alloc, fault),
         Err(_) => Ended::OutOfMemory,
     }
+}
+
+/// The end of a call whose marker has a normal text, unless it has more than `most` clauses.
+fn text_within(alloc: Global, interner: &Interner, tree: MarkerTree, most: usize) -> Ended
+    requires made { IsTree interner.now.nodes tree }
+    requires no_fault { text_fault (diagram_of interner.now.nodes tree) ≡ None }
+    ensures { DiagramEnds most (diagram_of interner.now.nodes tree) (ending_of result) }
+{
+    match has_more_clauses(alloc, tree, interner, most) {
+        Ok(true) => more_clauses(alloc, most),
+        Ok(false) => Ended::answered(tree_text(alloc, interner, tree)),
+        Err(_) => Ended::OutOfMemory,
+    }
+}
+
+/// The end of a call whose marker has more than `most` clauses.
+fn more_clauses(alloc: Global, most: usize) -> Ended
+    ensures { (diagram : Diagram Question) → text_fault diagram ≡ None → most < clause_count diagram →
+        EndsIn NoAnswer (HasMoreClauses most diagram) (ending_of result) }
+{
+    Ended::refused(
+        Place::span(1, 0, 0),
+        format!(in alloc; "more than {most} clauses"),
+    )
 }
 
 /// The reason why a tree has no normal text, or `None` if it has one.

@@ -1,8 +1,10 @@
 -- The command that the words of the command line name.
-use Rattle.std.specs.Prelude.{◌≡◌, ◌≢◌, ◌<◌, ◌^◌, ℕ, List, [], ◌∷◌, codes, map, Option, Some, None}
+use Rattle.std.specs.Prelude.{◌≡◌, ◌≢◌, ◌<◌, ◌-◌, ◌^◌, ◌&&◌, ℕ, List, [], ◌∷◌, codes, map, Option, Some, None}
+use Rattle.std.specs.Prelude.{is_none, unwrap_or, if◌then◌else◌}
 use Rattle.std.specs.Str.Parse.{IsNumeral, digits_value, without_leading_plus}
 use Rattle.clap.specs.Words.{first_value, one_text}
 use Rattle.clap.specs.declared.parser.matches.Found.{Found}
+use Rattle.reqs_io_faults.specs.declared.bounds.Bounds.{Bounds}
 use Rattle.reqs_json.specs.declared.format.Format.{Format}
 use Rattle.reqs_json.specs.declared.format.Format.TheVariants.{Text, Json}
 use Rattle.reqs_command.specs.declared.request.Asked.{Asked}
@@ -81,3 +83,29 @@ NamesFormat word Text = word ≢ codes "json"
 -- the format is the one in the words
 abbrev pub IsToldFormat : Found → Format → Type 0
 IsToldFormat found format = NamesFormat (text_at (first_value found (codes "format"))) format
+
+-- ---- bounds
+
+-- the greatest number of 64 bits
+abbrev pub greatest : ℕ
+greatest = 2 ^ 64 - 1
+
+-- bounds of three numbers, of which those left out are the greatest; none if all are left out
+abbrev pub bounds_from : Option ℕ → Option ℕ → Option ℕ → Option Bounds
+bounds_from nodes clauses cases =
+    if is_none nodes && is_none clauses && is_none cases then None
+    else Some (record {
+      nodes = unwrap_or nodes greatest;
+      clauses = unwrap_or clauses greatest;
+      cases = unwrap_or cases greatest;
+    })
+
+-- the bounds are those in the words
+pub record AreToldBounds (found : Found) (result : Option Bounds) : Type 0 where
+  pub nodes : Option ℕ
+  pub clauses : Option ℕ
+  pub cases : Option ℕ
+  pub nodes_told : LimitIs (one_text found (codes "nodes")) nodes
+  pub clauses_told : LimitIs (one_text found (codes "clauses")) clauses
+  pub cases_told : LimitIs (one_text found (codes "cases")) cases
+  pub is : result ≡ bounds_from nodes clauses cases

@@ -1,19 +1,26 @@
 -- The opened inputs and the result of the command on them, whatever opens them.
-use Rattle.std.specs.Prelude.{◌≡◌, ◌⊎◌, ℕ, List, [], ◌∷◌, map, Option, Result, Ok, Err}
+use Rattle.std.specs.Prelude.{◌≡◌, ◌⊎◌, ℕ, List, [], ◌∷◌, map, Option, Some, None, Result, Ok, Err}
 use Rattle.std.specs.List.{AllZip}
 use Rattle.pep508_url.specs.Vars.{Variables}
+use Rattle.pep508_tree.specs.Meaning.{NodeRecord}
 use Rattle.reqs_json.specs.declared.format.Format.{Format}
 use Rattle.reqs_io_faults.specs.declared.fault.Input.{Input}
 use Rattle.reqs_io_faults.specs.declared.fault.Input.TheVariants.{First, Second, Third}
 use Rattle.reqs_io_faults.specs.declared.fault.RunFault.{RunFault}
 use Rattle.reqs_io_faults.specs.declared.fault.RunFault.TheVariants.{Memory}
 use Rattle.reqs_io_faults.specs.declared.fault.Status.{Status}
+use Rattle.reqs_io_faults.specs.declared.bounds.Bounds.{Bounds}
 use Rattle.reqs_io_faults.specs.Ends.{Answering, Refusing, Runs}
+use Rattle.reqs_io_faults.specs.Within.{RefusesOr}
 use Rattle.reqs_answers.specs.Check.{ChecksAs, CheckRefuses}
 use Rattle.reqs_answers.specs.Matrix.{MatrixAnswersAs, MatrixRefuses}
-use Rattle.reqs_lists.specs.Comparison.{SameAnswersAs, SameRefuses}
+use Rattle.reqs_answers.specs.Matrix.{MatrixAnswersWithin, MatrixRefusesWithin, MatrixPasses}
+use Rattle.reqs_lists.specs.Comparison.{SameAnswersAs, SameAnswersWithin, SameRefuses, SameRefusesWithin}
+use Rattle.reqs_lists.specs.Comparison.{SamePasses}
 use Rattle.reqs_lists.specs.Contradictions.{ConflictsAnswerAs, ConflictsRefuse}
-use Rattle.reqs_lists.specs.Normal.{NormalAnswersAs, NormalRefuses}
+use Rattle.reqs_lists.specs.Contradictions.{ConflictsAnswerWithin, ConflictsRefuseWithin, ConflictsPass}
+use Rattle.reqs_lists.specs.Normal.{NormalAnswersAs, NormalAnswersWithin, NormalRefuses, NormalRefusesWithin}
+use Rattle.reqs_lists.specs.Normal.{NormalPasses}
 use Rattle.reqs_command.specs.declared.request.Asked.{Asked}
 use Rattle.reqs_command.specs.declared.request.Asked.TheVariants.{Check, Matrix, Same, Conflicts, Normal}
 use Rattle.reqs_command.specs.declared.opened.Opened.{Opened}
@@ -42,6 +49,48 @@ abbrev pub RunsAsked : {W : Type 0} → Asked → Format → Variables → List 
     → (W → Option (List ℕ)) → W → W → Result Status RunFault → Type 0
 RunsAsked asked format vars extras told contents old new result =
     Runs (answering asked format vars extras) (refusing asked vars extras) told contents old new result
+
+-- ---- within bounds
+
+-- what a command may answer within bounds, with these nodes afterwards
+abbrev pub answering_within : Bounds → List NodeRecord → Asked → Format → Variables → List (List ℕ)
+    → Answering
+answering_within bounds nodes Check format vars extras = ChecksAs format vars extras
+answering_within bounds nodes (Matrix limit) format vars extras =
+    MatrixAnswersWithin bounds nodes format limit vars extras
+answering_within bounds nodes (Same limit) format vars extras =
+    SameAnswersWithin bounds nodes format limit vars
+answering_within bounds nodes (Conflicts limit) format vars extras =
+    ConflictsAnswerWithin bounds nodes format limit vars
+answering_within bounds nodes Normal format vars extras = NormalAnswersWithin bounds nodes format vars
+
+-- the faults for which a command may refuse its inputs within bounds, with these nodes afterwards
+abbrev pub refusing_within : Bounds → List NodeRecord → Asked → Variables → List (List ℕ) → Refusing
+refusing_within bounds nodes Check vars extras = CheckRefuses vars extras
+refusing_within bounds nodes (Matrix limit) vars extras =
+    RefusesOr (MatrixPasses bounds nodes limit vars extras) (MatrixRefusesWithin bounds limit vars extras)
+refusing_within bounds nodes (Same limit) vars extras =
+    RefusesOr (SamePasses bounds nodes limit vars) (SameRefusesWithin bounds limit vars)
+refusing_within bounds nodes (Conflicts limit) vars extras =
+    RefusesOr (ConflictsPass bounds nodes limit vars) (ConflictsRefuseWithin bounds limit vars)
+refusing_within bounds nodes Normal vars extras =
+    RefusesOr (NormalPasses bounds nodes vars) (NormalRefusesWithin bounds vars)
+
+-- the command ends with this result within bounds, for the bytes that its readers have
+abbrev pub RunsWithin : {W : Type 0} → Bounds → Asked → Format → Variables → List (List ℕ)
+    → List (Option (List ℕ)) → (W → Option (List ℕ)) → W → W → Result Status RunFault → Type 0
+RunsWithin bounds asked format vars extras told contents old new result =
+    (nodes : List NodeRecord)
+    × Runs (answering_within bounds nodes asked format vars extras)
+    (refusing_within bounds nodes asked vars extras) told contents old new result
+
+-- the command ends with this result, within bounds if there are any
+abbrev pub RunsBounded : {W : Type 0} → Option Bounds → Asked → Format → Variables → List (List ℕ)
+    → List (Option (List ℕ)) → (W → Option (List ℕ)) → W → W → Result Status RunFault → Type 0
+RunsBounded None asked format vars extras told contents old new result =
+    RunsAsked asked format vars extras told contents old new result
+RunsBounded (Some bounds) asked format vars extras told contents old new result =
+    RunsWithin bounds asked format vars extras told contents old new result
 
 -- ---- opened inputs
 
@@ -83,13 +132,13 @@ Opens asked gives (Err fault) = (input : Input) × gives input (Err fault)
 -- ---- running the command on them
 
 -- all inputs were opened, and the command ends with this result on them
-pub record RunsAll {S W : Type 0} (asked : Asked) (format : Format)
+pub record RunsAll {S W : Type 0} (bounds : Option Bounds) (asked : Asked) (format : Format)
     (gives : Input → Result S RunFault → Type 0) (remaining : S → Option (List ℕ)) (vars : Variables)
     (extras : List (List ℕ)) (contents : W → Option (List ℕ)) (old new : W)
     (result : Result Status RunFault) : Type 0 where
   pub readers : List S
   pub opened : AreGiven gives (inputs_of asked) readers
-  pub runs : RunsAsked asked format vars extras (map remaining readers) contents old new result
+  pub runs : RunsBounded bounds asked format vars extras (map remaining readers) contents old new result
 
 -- an input wasn't opened, or there was no memory for the variables, and nothing was written
 abbrev pub IsRefusedBefore : {S W : Type 0} → (Input → Result S RunFault → Type 0) → W → W
@@ -99,9 +148,9 @@ IsRefusedBefore gives old new (Err fault) =
     (((input : Input) × gives input (Err fault)) ⊎ (fault ≡ Memory)) × (new ≡ old)
 
 -- how the command ends on the inputs that are opened
-abbrev pub RunsOpened : {S W : Type 0} → Asked → Format → (Input → Result S RunFault → Type 0)
+abbrev pub RunsOpened : {S W : Type 0} → Option Bounds → Asked → Format → (Input → Result S RunFault → Type 0)
     → (S → Option (List ℕ)) → Variables → List (List ℕ) → (W → Option (List ℕ)) → W → W
     → Result Status RunFault → Type 0
-RunsOpened asked format gives remaining vars extras contents old new result =
-    RunsAll asked format gives remaining vars extras contents old new result
+RunsOpened bounds asked format gives remaining vars extras contents old new result =
+    RunsAll bounds asked format gives remaining vars extras contents old new result
     ⊎ IsRefusedBefore gives old new result

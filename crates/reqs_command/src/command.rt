@@ -9,14 +9,14 @@ ghost use Rattle.reqs_command.specs.Source.{IfFile, IsAboveStandard};
 ghost use Rattle.reqs_command.specs.Variables.{variables_in};
 
 use crate::opened::{open_all, run_read};
-use crate::request::{Asked, format_of, matches};
+use crate::request::{Asked, bounds_of, format_of, matches};
 use crate::shown::{shown_fault, shown_lines, shown_text};
 use crate::source::{Source, open_file};
 use crate::variables::{entries, variables};
 use crate::words::{WordsFault, words};
 use clap::error::ErrorKind;
 use clap::{ArgMatches, Error};
-use reqs_io_faults::{Input, RunFault, Status};
+use reqs_io_faults::{Bounds, Input, RunFault, Status};
 use reqs_json::{Format, fault_line, memory_line, usage_line};
 use std::alloc::{AllocError, Global};
 use std::io::{self, Read, Write};
@@ -130,6 +130,7 @@ where
         rt,
         asked,
         format,
+        bounds_of(given),
         &paths,
         given.get_strs("EXTRA").unwrap_or(&[]),
         &entries,
@@ -143,6 +144,7 @@ fn end_asked<R, S, F, W>(
     rt: &R,
     asked: Asked,
     format: Format,
+    bounds: Option<Bounds>,
     paths: &[&str],
     extras: &[&str],
     entries: &[String],
@@ -155,20 +157,30 @@ where
     F: Fn(Input) -> Result<S, RunFault>,
     W: Write,
     requires { F.IsAlwaysCallable opener }
-    ensures { (ended : Result Status RunFault) × RunsOpened asked format (F.post opener) S.remaining
+    ensures { (ended : Result Status RunFault) × RunsOpened bounds asked format (F.post opener) S.remaining
         (variables_in (map string_bytes entries.now)) (map (λ e. e.now) extras.now)
         W.contents output.old output.new ended × (exit_status result ≡ status_after ended) }
 {
-    let ended = run_opened(rt.alloc(), asked, format, extras, entries, opener, output);
+    let ended = run_opened(
+        rt.alloc(),
+        asked,
+        format,
+        bounds,
+        extras,
+        entries,
+        opener,
+        output,
+    );
     exit_after(rt, format, &ended, paths)
 }
 
-/// Opens all inputs, in the order of the command line, and runs a command on them with the environment
-/// variables in `entries`.
+/// Opens all inputs, in the order of the command line, and runs a command on them, within bounds if there are
+/// any, with the environment variables in `entries`.
 fn run_opened<S, F, W>(
     alloc: Global,
     asked: Asked,
     format: Format,
+    bounds: Option<Bounds>,
     extras: &[&str],
     entries: &[String],
     opener: F,
@@ -179,13 +191,13 @@ where
     F: Fn(Input) -> Result<S, RunFault>,
     W: Write,
     requires { F.IsAlwaysCallable opener }
-    ensures { RunsOpened asked format (F.post opener) S.remaining
+    ensures { RunsOpened bounds asked format (F.post opener) S.remaining
         (variables_in (map string_bytes entries.now)) (map (λ e. e.now) extras.now)
         W.contents output.old output.new result }
 {
     let mut opened = open_all(asked, opener)?;
     let vars = variables(alloc, entries)?;
-    run_read(alloc, &mut opened, extras, &vars, format, output)
+    run_read(alloc, &mut opened, extras, &vars, format, bounds, output)
 }
 
 /// Ends the program with the exit status of the command's result, and prints why if it is a fault.

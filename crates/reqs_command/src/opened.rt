@@ -1,14 +1,16 @@
 //! The opened inputs of a command, and running the command on them.
 
 ghost use Rattle.std.specs.Prelude.{◌≡◌, map};
-ghost use Rattle.reqs_command.specs.Opened.{asked_of, readers_of, Opens, RunsAsked};
+ghost use Rattle.reqs_command.specs.Opened.{asked_of, readers_of, Opens, RunsAsked, RunsWithin};
+ghost use Rattle.reqs_command.specs.Opened.{RunsBounded};
 
 use crate::request::Asked;
+use pep508_tree::Interner;
 use pep508_url::Vars;
-use reqs_answers::{check, matrix};
-use reqs_io_faults::{Input, RunFault, Status};
+use reqs_answers::{check, matrix, matrix_within};
+use reqs_io_faults::{Bounds, Input, RunFault, Status};
 use reqs_json::Format;
-use reqs_lists::{conflicts, normal, same};
+use reqs_lists::{conflicts, conflicts_within, normal, normal_within, same, same_within};
 use std::alloc::Global;
 use std::io::{Read, Write};
 
@@ -80,12 +82,114 @@ where
     }
 }
 
-/// Runs a command on its inputs, with its output in a format.
+/// Runs a command on its inputs, within bounds if there are any, with its output in a format.
 ///
 /// # Errors
 ///
 /// The fault of the command.
 pub fn run_read<S: Read + Drop, W: Write>(
+    alloc: Global,
+    opened: &mut Opened<S>,
+    extras: &[&str],
+    vars: &Vars,
+    format: Format,
+    bounds: Option<Bounds>,
+    output: &mut W,
+) -> Result<Status, RunFault>
+    ensures { RunsBounded bounds (asked_of opened.old) format vars.now (map (λ e. e.now) extras.now)
+        (map S.remaining (readers_of opened.old)) W.contents output.old output.new result }
+{
+    match bounds {
+        None => run_unbounded(alloc, opened, extras, vars, format, output),
+        Some(bounds) => run_within(alloc, opened, extras, vars, format, bounds, output),
+    }
+}
+
+/// Runs a command on its inputs within bounds.
+fn run_within<S: Read + Drop, W: Write>(
+    alloc: Global,
+    opened: &mut Opened<S>,
+    extras: &[&str],
+    vars: &Vars,
+    format: Format,
+    bounds: Bounds,
+    output: &mut W,
+) -> Result<Status, RunFault>
+    ensures { RunsWithin bounds (asked_of opened.old) format vars.now (map (λ e. e.now) extras.now)
+        (map S.remaining (readers_of opened.old)) W.contents output.old output.new result }
+{
+    let mut interner = Interner::with_most(alloc, bounds.nodes);
+    match opened {
+        Opened::Check {
+            requirements,
+            environment,
+            candidates,
+        } => check(
+            alloc,
+            requirements,
+            environment,
+            candidates,
+            extras,
+            vars,
+            format,
+            output,
+        ),
+        Opened::Matrix {
+            requirements,
+            environments,
+            candidates,
+            limit,
+        } => matrix_within(
+            alloc,
+            requirements,
+            environments,
+            candidates,
+            extras,
+            vars,
+            *limit,
+            format,
+            bounds,
+            &mut interner,
+            output,
+        ),
+        Opened::Same { left, right, limit } => same_within(
+            alloc,
+            left,
+            right,
+            vars,
+            *limit,
+            format,
+            bounds,
+            &mut interner,
+            output,
+        ),
+        Opened::Conflicts {
+            requirements,
+            limit,
+        } => conflicts_within(
+            alloc,
+            requirements,
+            vars,
+            *limit,
+            format,
+            bounds,
+            &mut interner,
+            output,
+        ),
+        Opened::Normal { requirements } => normal_within(
+            alloc,
+            requirements,
+            vars,
+            format,
+            bounds,
+            &mut interner,
+            output,
+        ),
+    }
+}
+
+/// Runs a command on its inputs without bounds.
+fn run_unbounded<S: Read + Drop, W: Write>(
     alloc: Global,
     opened: &mut Opened<S>,
     extras: &[&str],

@@ -5,9 +5,10 @@
 ghost use Rattle.std.specs.Prelude.{◌≡◌, map, codes, IfOk};
 ghost use Rattle.clap.specs.Words.{first_value, found_of, one_text};
 ghost use Rattle.reqs_command.specs.Asked.{text_at, paths_in, LimitIs, AsksFor, NamesLimited};
-ghost use Rattle.reqs_command.specs.Asked.{NamesFormat, IsToldFormat};
+ghost use Rattle.reqs_command.specs.Asked.{NamesFormat, IsToldFormat, bounds_from, AreToldBounds};
 
 use clap::{Arg, ArgMatches, Command, Error};
+use reqs_io_faults::Bounds;
 use reqs_json::Format;
 use std::alloc::{AllocError, Global};
 
@@ -110,11 +111,44 @@ fn format_named(word: &str) -> Format
     }
 }
 
+/// The bounds that the words name, of which those left out are the greatest numbers; `None` if they name
+/// none.
+pub fn bounds_of(given: &ArgMatches<'_>) -> Option<Bounds>
+    ensures { AreToldBounds (found_of given.now) result }
+{
+    let nodes = number_of(given, "nodes");
+    let clauses = number_of(given, "clauses");
+    let cases = number_of(given, "cases");
+    bounds_from(nodes, clauses, cases)
+}
+
+/// Bounds of three numbers, of which those left out are the greatest; `None` if all are left out.
+fn bounds_from(nodes: Option<u64>, clauses: Option<u64>, cases: Option<u64>) -> Option<Bounds>
+    ensures { result ≡ bounds_from nodes clauses cases }
+{
+    if nodes.is_none() && clauses.is_none() && cases.is_none() {
+        return None;
+    }
+    let bounds = Bounds {
+        nodes: nodes.unwrap_or(u64::MAX) as usize,
+        clauses: clauses.unwrap_or(u64::MAX) as usize,
+        cases: cases.unwrap_or(u64::MAX),
+    };
+    Some(bounds)
+}
+
 /// The limit that the words name, or the default.
 fn limit_of(given: &ArgMatches<'_>) -> Option<u64>
     ensures { LimitIs (one_text (found_of given.now) (codes "limit")) result }
 {
-    given.get_one("limit")
+    number_of(given, "limit")
+}
+
+/// The number that the words give an option, if they do.
+fn number_of(given: &ArgMatches<'_>, name: &str) -> Option<u64>
+    ensures { LimitIs (one_text (found_of given.now) name.now) result }
+{
+    given.get_one(name)
 }
 
 /// The matches of the words.
@@ -165,6 +199,9 @@ fn matrix_command<'a>(alloc: Global) -> Result<Command<'a>, AllocError> {
         "Prints for each environment of a list what check prints for it",
     );
     let matrix = with_limit(alloc, matrix)?;
+    let matrix = with_cases(alloc, matrix)?;
+    let matrix = with_nodes(alloc, matrix)?;
+    let matrix = with_format(alloc, matrix)?;
     with_inputs(
         alloc,
         matrix,
@@ -177,7 +214,11 @@ fn same_command<'a>(alloc: Global) -> Result<Command<'a>, AllocError> {
     let same = Command::new(alloc, "same").about(
         "Prints yes where two lists require the same everywhere, or else where they first differ",
     );
-    with_limit(alloc, same)?
+    let same = with_limit(alloc, same)?;
+    let same = with_cases(alloc, same)?;
+    let same = with_nodes(alloc, same)?;
+    let same = with_clauses(alloc, same)?;
+    with_format(alloc, same)?
         .arg(input(
             alloc,
             "LEFT",
@@ -191,22 +232,54 @@ fn conflicts_command<'a>(alloc: Global) -> Result<Command<'a>, AllocError> {
         "Prints each package with its lines that contradict each other, and pre where one \
          names a pre-release",
     );
-    with_limit(alloc, conflicts)?.arg(list_argument(alloc))
+    let conflicts = with_limit(alloc, conflicts)?;
+    let conflicts = with_cases(alloc, conflicts)?;
+    let conflicts = with_nodes(alloc, conflicts)?;
+    with_format(alloc, conflicts)?.arg(list_argument(alloc))
 }
 
 fn normal_command<'a>(alloc: Global) -> Result<Command<'a>, AllocError> {
     let normal = Command::new(alloc, "normal").about(
         "Prints the lines in one normal form, without those that never apply",
     );
+    let normal = with_nodes(alloc, normal)?;
+    let normal = with_clauses(alloc, normal)?;
     with_format(alloc, normal)?.arg(list_argument(alloc))
 }
 
-/// A command with an argument for a limit and one for a format.
+/// A command with an option for a limit.
 fn with_limit<'a>(alloc: Global, command: Command<'a>) -> Result<Command<'a>, AllocError> {
-    with_format(alloc, command.arg(limit_argument(alloc))?)
+    command.arg(limit_argument(alloc))
 }
 
-/// A command with an argument for a format.
+/// A command with an option for the most cases in all.
+fn with_cases<'a>(alloc: Global, command: Command<'a>) -> Result<Command<'a>, AllocError> {
+    command.arg(bound_argument(
+        alloc,
+        "cases",
+        "The most cases that all packages of a list together may have; without this no bound",
+    ))
+}
+
+/// A command with an option for the most nodes.
+fn with_nodes<'a>(alloc: Global, command: Command<'a>) -> Result<Command<'a>, AllocError> {
+    command.arg(bound_argument(
+        alloc,
+        "nodes",
+        "The most nodes that the trees of all markers may have; without this no bound",
+    ))
+}
+
+/// A command with an option for the most clauses.
+fn with_clauses<'a>(alloc: Global, command: Command<'a>) -> Result<Command<'a>, AllocError> {
+    command.arg(bound_argument(
+        alloc,
+        "clauses",
+        "The most clauses that a printed marker may have; without this no bound",
+    ))
+}
+
+/// A command with an option for a format.
 fn with_format<'a>(alloc: Global, command: Command<'a>) -> Result<Command<'a>, AllocError> {
     command.arg(format_argument(alloc))
 }
@@ -218,6 +291,15 @@ fn limit_argument<'a>(alloc: Global) -> Arg<'a> {
         .help("The most cases that the lines of a package may have")
         .value_parser(clap::value_parser!(u64).range(0..=1000000))
         .default_value("4096")
+}
+
+/// The option of this name for a number of 64 bits.
+fn bound_argument<'a>(alloc: Global, name: &'a str, help: &'a str) -> Arg<'a> {
+    Arg::new(alloc, name)
+        .long(name)
+        .value_name("N")
+        .help(help)
+        .value_parser(clap::value_parser!(u64))
 }
 
 fn format_argument<'a>(alloc: Global) -> Arg<'a> {

@@ -3,3 +3,4 @@ pub mod Extras
 pub mod EachEnvironment
 pub mod Reading
 pub mod Steps
+pub mod Unbounded

@@ -17,11 +17,12 @@ use Rattle.reqtable_requirements.specs.declared.requirements.RequirementsError.T
 use Rattle.reqtable_candidates.specs.TextLines.{text_lines}
 use Rattle.reqs_io_faults.specs.declared.fault.RunFault.{RunFault}
 use Rattle.reqs_io_faults.specs.declared.fault.RunFault.TheVariants.{Read, Write, Memory, TooLong, Requirement}
+use Rattle.reqs_io_faults.specs.declared.fault.RunFault.TheVariants.{TooMany}
 use Rattle.reqs_io_faults.specs.declared.fault.Input.{Input}
 use Rattle.reqs_io_faults.specs.declared.fault.Input.TheVariants.{First, Second, Third}
 use Rattle.reqs_io_faults.specs.declared.fault.Status.{Status}
 use Rattle.reqs_io_faults.specs.Faults.{Cause, Says, told_run, of_requirements, of_candidates, requirements_cause}
-use Rattle.reqs_io_faults.specs.Faults.{Refuses, IsOfInputs, IsPlain, IsOfTexts}
+use Rattle.reqs_io_faults.specs.Faults.{Refuses, IsOfInputs, IsExcess, IsPlain, IsOfTexts}
 use Rattle.reqs_io_faults.specs.Inputs.{◌>>=◌, with_cause, IsWithin, ReadsInput}
 use Rattle.reqs_io_faults.specs.Ends.{Answering, Refusing, AreWithin, place_of, of_input, EndsAs, Runs}
 use Rattle.reqs_io_faults.specs.Ends.{WritesAnswer}
@@ -49,6 +50,7 @@ requirements_refuse vars input bytes (requirements.Line number error) reading h 
     ((refl, said), ap (with_cause (requirements_cause input)) h)
 requirements_refuse vars input bytes (requirements.NumberAtEnd number) reading h said =
     (tt, ap (with_cause (requirements_cause input)) h)
+requirements_refuse vars input bytes (requirements.TooManyNodes number most) reading h said = absurd said
 requirements_refuse vars input bytes requirements.Memory reading h said = (tt, tt)
 
 is_of_texts : (vars : Variables) (list : Input) (bytes : List ℕ) (fault : RunFault) → IsPlain fault
@@ -106,6 +108,7 @@ module _ {W : Type 0} (Answers : Answering) (Refused : Refusing) (contents : W �
   refused MaySay inputs (TooLong input) h within r = absurd h
   refused MaySay inputs Write h within r = absurd h
   refused MaySay inputs Memory h within r = tt
+  refused MaySay inputs (TooMany excess) h within r = absurd h
   refused MaySay inputs fault h within r = (within, r)
 
   -- a command of which one input is not read, whatever inputs stand behind it
@@ -153,6 +156,13 @@ module _ {W : Type 0} (Answers : Answering) (Refused : Refusing) (contents : W �
         → Runs Answers Refused told contents old new (Err fault)
     texts_refused MaySay fault h r =
         record { inputs = inputs; are_told = are_told; ends = refused MaySay inputs fault h within r }
+
+    -- by a bound that was passed
+    pub bound_passed : (fault : RunFault) → IsExcess fault → Refused inputs fault
+        → Runs Answers Refused told contents old new (Err fault)
+    bound_passed (TooMany excess) h r =
+        record { inputs = inputs; are_told = are_told; ends = (within, r) }
+    bound_passed fault h r = absurd h
 
     -- or answered
     pub answered : (status : Status) (text : List ℕ) → Answers inputs status text

@@ -21,7 +21,9 @@ use Rattle.reqs_io_faults.specs.declared.fault.RunFault.TheVariants.{Extra}
 use Rattle.reqs_io_faults.specs.declared.fault.RunFault.TheVariants.{Requirement, NumberAtEnd, Json, Float}
 use Rattle.reqs_io_faults.specs.declared.fault.RunFault.TheVariants.{Shape}
 use Rattle.reqs_io_faults.specs.declared.fault.RunFault.TheVariants.{Member, Version, Candidate, TooManyCases}
-use Rattle.reqs_io_faults.specs.declared.fault.RunFault.TheVariants.{Refused}
+use Rattle.reqs_io_faults.specs.declared.fault.RunFault.TheVariants.{Refused, TooMany}
+use Rattle.reqs_io_faults.specs.declared.bounds.Excess.{Excess}
+use Rattle.reqs_io_faults.specs.declared.bounds.Excess.TheVariants.{NodesAt, Nodes, ClausesAt, ClausesFor, Cases}
 
 -- an input, by its place on the command line
 abbrev pub input_words : Input → List ℕ
@@ -61,6 +63,24 @@ abbrev pub cases_text : List ℕ → ℕ → List ℕ → List ℕ
 cases_text path limit name =
     path ++ codes ": more than " ++ decimal limit ++ codes " cases for " ++ name
 
+-- what there is more of than a bound allows
+abbrev pub excess_words : Excess → List ℕ
+excess_words (NodesAt input number most) = codes "more than " ++ decimal most ++ codes " nodes"
+excess_words (Nodes most) = codes "more than " ++ decimal most ++ codes " nodes"
+excess_words (ClausesAt input number most) = codes "more than " ++ decimal most ++ codes " clauses"
+excess_words (ClausesFor name most) = codes "more than " ++ decimal most ++ codes " clauses for " ++ name
+excess_words (Cases input most) = codes "more than " ++ decimal most ++ codes " cases in all"
+
+-- the same with its place
+abbrev pub excess_text : (Input → List ℕ) → Excess → List ℕ
+excess_text said (NodesAt input number most) =
+    line_text (said input) number (excess_words (NodesAt input number most))
+excess_text said (Nodes most) = excess_words (Nodes most)
+excess_text said (ClausesAt input number most) =
+    line_text (said input) number (excess_words (ClausesAt input number most))
+excess_text said (ClausesFor name most) = excess_words (ClausesFor name most)
+excess_text said (Cases input most) = input_text (said input) (excess_words (Cases input most))
+
 -- the start of the message for an invalid line: the place in bytes of what is at fault
 abbrev pub requirement_front : List ℕ → ℕ → Pep508Error Verbatim VerbatimUrlError → List ℕ
 requirement_front path number error =
@@ -97,6 +117,7 @@ fault_text said (Version input index name) =
 fault_text said (Candidate input number cause) =
     Some (line_text (said input) number (cause_text cause))
 fault_text said (TooManyCases input limit name) = Some (cases_text (said input) limit name)
+fault_text said (TooMany excess) = Some (excess_text said excess)
 
 -- the message for an invalid line starts with its number and place, whatever follows
 abbrev pub HasItsFront : (Input → List ℕ) → RunFault → List ℕ → Type 0

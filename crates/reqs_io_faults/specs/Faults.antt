@@ -19,7 +19,8 @@ use Rattle.reqs_io_faults.specs.declared.fault.RunFault.{RunFault}
 use Rattle.reqs_io_faults.specs.declared.fault.RunFault.TheVariants.{Read, Write, Memory, TooLong, NotText}
 use Rattle.reqs_io_faults.specs.declared.fault.RunFault.TheVariants.{Requirement, NumberAtEnd, Json, Float}
 use Rattle.reqs_io_faults.specs.declared.fault.RunFault.TheVariants.{Shape}
-use Rattle.reqs_io_faults.specs.declared.fault.RunFault.TheVariants.{Member, Version, Candidate}
+use Rattle.reqs_io_faults.specs.declared.fault.RunFault.TheVariants.{Member, Version, Candidate, TooMany}
+use Rattle.reqs_io_faults.specs.declared.bounds.Excess.TheVariants as excess
 
 -- 3 for a reader, the writer and memory; 2 for an invalid input or command line
 abbrev pub status_of : RunFault → ℕ
@@ -46,6 +47,7 @@ abbrev pub of_requirements : Input → RequirementsError → RunFault
 of_requirements input (requirements.NotText offset) = NotText input offset
 of_requirements input (requirements.Line number error) = Requirement input number error
 of_requirements input (requirements.NumberAtEnd number) = NumberAtEnd input number
+of_requirements input (requirements.TooManyNodes number most) = TooMany (excess.NodesAt input number most)
 of_requirements input requirements.Memory = Memory
 
 -- the fault for an environment, by its place on the command line and its number
@@ -74,12 +76,13 @@ told_run Memory = None
 told_run (Requirement input number error) = Some (NoRequirement input number)
 told_run fault = Some (Says fault)
 
--- the fault is not one of a reader or the writer, nor of an input's length; and its error of a line that is
--- not a requirement may be that of a line of that input
+-- the fault is not one of a reader or the writer, nor of an input's length, and passes no bound; and its
+-- error of a line that is not a requirement may be that of a line of that input
 abbrev pub IsOfInputs : (Input → RequirementsError → Type 0) → RunFault → Type 0
 IsOfInputs MaySay (Read input) = ⊥
 IsOfInputs MaySay Write = ⊥
 IsOfInputs MaySay (TooLong input) = ⊥
+IsOfInputs MaySay (TooMany excess) = ⊥
 IsOfInputs MaySay (Requirement input number error) = MaySay input (requirements.Line number error)
 IsOfInputs MaySay fault = Unit {0}
 
@@ -92,6 +95,16 @@ IsPlain = IsOfInputs (λ input error. ⊥)
 abbrev pub IsOfTexts : Variables → Input → List ℕ → RunFault → Type 0
 IsOfTexts vars list bytes =
     IsOfInputs (λ input error. (input ≡ list) × IsErrorIn vars (text_lines bytes) error)
+
+-- the fault is that a bound was passed
+abbrev pub IsExcess : RunFault → Type 0
+IsExcess (TooMany excess) = Unit {0}
+IsExcess fault = ⊥
+
+-- the fault of a run that asked for no bounds: what passes the greatest numbers has no room in memory
+abbrev pub unbounded : RunFault → RunFault
+unbounded (TooMany excess) = Memory
+unbounded fault = fault
 
 -- the fault is one of an environment's text
 abbrev pub IsOfEnvironment : RunFault → Type 0

@@ -4,10 +4,12 @@ ghost use Rattle.std.specs.Prelude.{Some};
 ghost use Rattle.std.specs.Fmt.{DisplaysOnOk};
 ghost use Rattle.pep508_environment.specs.Environment.{member_name};
 ghost use Rattle.reqs_io_faults.specs.FaultText.{input_words, member_text, requirement_front};
-ghost use Rattle.reqs_io_faults.specs.FaultText.{requirement_text};
+ghost use Rattle.reqs_io_faults.specs.FaultText.{requirement_text, line_text, input_text};
+ghost use Rattle.reqs_io_faults.specs.FaultText.{excess_text, excess_words};
 ghost use Rattle.reqs_io_faults.specs.FaultText.{fault_text};
 ghost use Rattle.reqs_io_faults.specs.Faults.{IsOfEnvironment};
 
+use crate::bounds::Excess;
 use crate::fault::{Input, RunFault, shape_text};
 use pep508_environment::EnvironmentMember;
 use pep508_error::Pep508Error;
@@ -66,6 +68,7 @@ impl fmt::Display for RunFault {
                 limit,
                 package,
             } => write!(f, "{input}: more than {limit} cases for {package}"),
+            RunFault::TooMany(excess) => write_excess(excess, f),
             fault => write_environment(fault, f),
         }
     }
@@ -100,6 +103,45 @@ fn write_front<W: fmt::Write>(
     let start = error.start();
     let len = error.len();
     writeln!(f, "{input}: line {number}, byte {start}, length {len}")
+}
+
+/// Writes the text of a bound that was passed.
+fn write_excess<W: fmt::Write>(excess: &Excess, f: &mut fmt::Formatter<W>) -> fmt::Result
+    ensures { DisplaysOnOk W.write_str_gives f.old result
+        (Some (excess_text input_words excess.now)) f.new }
+{
+    match excess {
+        Excess::NodesAt { input, number, .. } => write_at_line(*input, *number, excess, f),
+        Excess::ClausesAt { input, number, .. } => write_at_line(*input, *number, excess, f),
+        Excess::Cases { input, .. } => write_at_input(*input, excess, f),
+        Excess::Nodes { .. } => write!(f, "{excess}"),
+        Excess::ClausesFor { .. } => write!(f, "{excess}"),
+    }
+}
+
+/// Writes what a line has more of.
+fn write_at_line<W: fmt::Write>(
+    input: Input,
+    number: usize,
+    excess: &Excess,
+    f: &mut fmt::Formatter<W>,
+) -> fmt::Result
+    ensures { DisplaysOnOk W.write_str_gives f.old result
+        (Some (line_text (input_words input) number (excess_words excess.now))) f.new }
+{
+    write!(f, "{input}: line {number}: {excess}")
+}
+
+/// Writes what an input has more of.
+fn write_at_input<W: fmt::Write>(
+    input: Input,
+    excess: &Excess,
+    f: &mut fmt::Formatter<W>,
+) -> fmt::Result
+    ensures { DisplaysOnOk W.write_str_gives f.old result
+        (Some (input_text (input_words input) (excess_words excess.now))) f.new }
+{
+    write!(f, "{input}: {excess}")
 }
 
 /// Writes the text of a fault of an environment.

@@ -10,7 +10,7 @@ ghost use Rattle.std.specs.Prelude.{◌≡◌, map, string_bytes, IfOk, IfSome};
 ghost use Rattle.std.specs.Io.{StartsWith};
 ghost use Rattle.pep508_environment.specs.Environment.{member_name};
 ghost use Rattle.reqs_io_faults.specs.Ends.{place_of, of_input};
-ghost use Rattle.reqs_io_faults.specs.Faults.{status_of, IsOfEnvironment};
+ghost use Rattle.reqs_io_faults.specs.Faults.{status_of, unbounded, IsOfEnvironment};
 ghost use Rattle.reqs_io_faults.specs.Faults.{of_reading, of_requirements, of_environment, of_candidates};
 ghost use Rattle.reqs_io_faults.specs.FaultText.{shape_text, refused_text, input_text, line_text};
 ghost use Rattle.reqs_io_faults.specs.FaultText.{member_text};
@@ -18,6 +18,7 @@ ghost use Rattle.reqs_io_faults.specs.FaultText.{cases_text};
 ghost use Rattle.reqs_io_faults.specs.FaultText.{requirement_front, requirement_text, fault_text};
 ghost use Rattle.reqs_io_faults.specs.FaultText.{HasItsFront};
 
+use crate::bounds::Excess;
 use pep508_environment::{EnvironmentError, EnvironmentMember};
 use pep508_error::Pep508Error;
 use pep508_name::PackageName;
@@ -243,6 +244,8 @@ pub enum RunFault {
         limit: u64,
         package: PackageName,
     },
+    /// A bound that the caller asked for was passed.
+    TooMany(Excess),
 }
 
 impl From<AllocError> for RunFault {
@@ -289,6 +292,13 @@ impl RunFault {
                 error,
             },
             RequirementsError::NumberAtEnd { number } => RunFault::NumberAtEnd { input, number },
+            RequirementsError::TooManyNodes { number, most } => RunFault::TooMany(
+                Excess::NodesAt {
+                    input,
+                    number,
+                    most,
+                },
+            ),
             RequirementsError::Memory => RunFault::Memory,
         }
     }
@@ -383,7 +393,18 @@ impl RunFault {
                 limit,
                 package,
             } => { at_package(alloc, input.path(paths), *limit, package) }
+            RunFault::TooMany(excess) => excess.text(alloc, paths),
             _ => self.environment_text(alloc, paths),
+        }
+    }
+
+    /// The fault of a run that asked for no bounds: what passes the greatest numbers has no room in memory.
+    pub fn unbounded(self) -> RunFault
+        ensures { result ≡ unbounded self }
+    {
+        match self {
+            RunFault::TooMany(_) => RunFault::Memory,
+            fault => fault,
         }
     }
 
@@ -427,14 +448,19 @@ pub(crate) fn shape_text(wanted: JsonShape) -> &'static str
 }
 
 /// The message for a fault of an input as a whole.
-fn at(alloc: Global, path: &str, fault: &str) -> Result<String, AllocError>
+pub(crate) fn at(alloc: Global, path: &str, fault: &str) -> Result<String, AllocError>
     ensures { IfOk result (λ text. string_bytes text ≡ input_text path.now fault.now) }
 {
     format!(in alloc; "{path}: {fault}")
 }
 
 /// The message for a fault of a line.
-fn at_line(alloc: Global, path: &str, number: usize, fault: &str) -> Result<String, AllocError>
+pub(crate) fn at_line(
+    alloc: Global,
+    path: &str,
+    number: usize,
+    fault: &str,
+) -> Result<String, AllocError>
     ensures { IfOk result (λ text. string_bytes text ≡ line_text path.now number fault.now) }
 {
     format!(in alloc; "{path}: line {number}: {fault}")

@@ -5,7 +5,7 @@
 //! are dropped once they are read as what they are. A fault's input without a path has the empty one, so
 //! that no text requires a number of paths.
 
-ghost use Rattle.std.specs.Prelude.{◌≡◌, ◌⊎◌, map, IfOk, IfErr, Some, None};
+ghost use Rattle.std.specs.Prelude.{◌≡◌, ◌≤◌, ◌⊎◌, length, map, IfOk, IfErr, Some, None};
 ghost use Rattle.std.specs.Prelude.{true, false};
 ghost use Rattle.std.specs.Str.{is_utf8};
 ghost use Rattle.std.specs.Str.Lossy.{utf8_valid_len};
@@ -16,6 +16,7 @@ ghost use Rattle.reqtable_requirements.specs.Requirements.{SaysLine, StandsFor};
 ghost use Rattle.reqs_io_faults.specs.Faults.{AnswersRun};
 ghost use Rattle.reqs_io_faults.specs.Inputs.{ReadsInput, extra_of, extras_of, AnswersLines};
 ghost use Rattle.reqs_io_faults.specs.Inputs.{environment_in, environment_from, candidates_from};
+ghost use Rattle.reqs_io_faults.specs.Within.{LinesWithin};
 
 use crate::fault::{Input, RefusedWord, RunFault};
 use pep508_environment::MarkerEnvironment;
@@ -93,6 +94,33 @@ pub fn read_requirements(
     match read {
         Ok(requirements) => Ok(requirements),
         Err(fault) => Err(RunFault::of_requirements(input, fault)),
+    }
+}
+
+/// Parses a list of requirements as `read_requirements` does, and stops once the interner has more than
+/// `most` nodes, as `Requirements::parse_within` does. Drops its bytes.
+///
+/// # Errors
+///
+/// Those of `read_requirements`, and then `Excess::NodesAt` in `RunFault::TooMany` for the first line after
+/// whose tree there are more nodes.
+pub fn requirements_within(
+    alloc: Global,
+    input: Input,
+    bytes: &mut Vec<u8>,
+    interner: &mut Interner,
+    vars: &Vars,
+    most: usize,
+) -> Result<Requirements, RunFault>
+    requires { length interner.old.nodes ≤ most }
+    ensures lines { LinesWithin vars.now input most interner.new.nodes bytes.old.items result }
+    ensures keeps { Extends interner.old.nodes interner.new.nodes }
+{
+    let read = Requirements::parse_within(alloc, bytes, interner, vars, most);
+    *bytes = Vec::new(alloc);
+    match read {
+        Ok(requirements) => Ok(requirements),
+        Err(stopped) => Err(RunFault::of_requirements(input, stopped)),
     }
 }
 

@@ -8,16 +8,18 @@
 //! that read no input are stated to have no reader's fault; a write fault comes only where the answer's
 //! text was made.
 
+mod bounds;
 mod display;
 mod environments;
 mod fault;
 mod input;
 mod output;
 
+pub use bounds::{Bounds, Excess};
 pub use environments::read_environments;
 pub use fault::{Input, JsonShape, RefusedCause, RefusedWord, RunFault, Status};
 pub use input::{
     read_candidates, read_environment, read_extras, read_input, read_marked_lines,
-    read_requirements,
+    read_requirements, requirements_within,
 };
 pub use output::write_answer;

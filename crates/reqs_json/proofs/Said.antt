@@ -8,7 +8,8 @@ use Rattle.reqs_io_faults.specs.declared.fault.RunFault.{RunFault}
 use Rattle.reqs_io_faults.specs.declared.fault.RunFault.TheVariants.{Read, Write, Memory, TooLong, NotText, Extra}
 use Rattle.reqs_io_faults.specs.declared.fault.RunFault.TheVariants.{Requirement, NumberAtEnd, Json, Float, Shape}
 use Rattle.reqs_io_faults.specs.declared.fault.RunFault.TheVariants.{Member, Version, Candidate, TooManyCases}
-use Rattle.reqs_io_faults.specs.declared.fault.RunFault.TheVariants.{Refused}
+use Rattle.reqs_io_faults.specs.declared.fault.RunFault.TheVariants.{Refused, TooMany}
+use Rattle.reqs_io_faults.specs.declared.bounds.Excess.TheVariants.{NodesAt, Nodes, ClausesAt, ClausesFor, Cases}
 use Rattle.reqs_json.specs.Lines.{line_of}
 use Rattle.reqs_json.specs.Faults.{kind_of, input_in, place_in, message_of, place_text, error_value}
 use Rattle.reqs_json.specs.Faults.{IsFaultLine}
@@ -32,6 +33,11 @@ behind_place said (Member input index name) = simp append_assoc
 behind_place said (Version input index name) = simp append_assoc
 behind_place said (Candidate input number cause) = refl
 behind_place said (TooManyCases input limit name) = simp append_assoc
+behind_place said (TooMany (NodesAt input number most)) = simp append_assoc
+behind_place said (TooMany (Nodes most)) = refl
+behind_place said (TooMany (ClausesAt input number most)) = simp append_assoc
+behind_place said (TooMany (ClausesFor name most)) = refl
+behind_place said (TooMany (Cases input most)) = simp append_assoc
 
 -- a line that has what is told of a fault is its object
 pub told : {Y E : Type 0} (said : Input → List ℕ) (fault : RunFault) (line : Result (String Y) E)

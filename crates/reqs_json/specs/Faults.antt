@@ -13,12 +13,22 @@ use Rattle.reqs_io_faults.specs.declared.fault.RunFault.TheVariants.{Extra}
 use Rattle.reqs_io_faults.specs.declared.fault.RunFault.TheVariants.{Requirement, NumberAtEnd, Json, Float}
 use Rattle.reqs_io_faults.specs.declared.fault.RunFault.TheVariants.{Shape}
 use Rattle.reqs_io_faults.specs.declared.fault.RunFault.TheVariants.{Member, Version, Candidate, TooManyCases}
-use Rattle.reqs_io_faults.specs.declared.fault.RunFault.TheVariants.{Refused}
-use Rattle.reqs_io_faults.specs.FaultText.{shape_text, refused_text, requirement_front}
+use Rattle.reqs_io_faults.specs.declared.fault.RunFault.TheVariants.{Refused, TooMany}
+use Rattle.reqs_io_faults.specs.declared.bounds.Excess.{Excess}
+use Rattle.reqs_io_faults.specs.declared.bounds.Excess.TheVariants.{NodesAt, Nodes, ClausesAt, ClausesFor, Cases}
+use Rattle.reqs_io_faults.specs.FaultText.{shape_text, refused_text, excess_words, requirement_front}
 use Rattle.reqs_json.specs.declared.faults.Place.{Place}
 use Rattle.reqs_json.specs.Lines.{number_of, value_or_null, line_of}
 
 -- ---- the parts of a fault
+
+-- the kind of what there is too much of, in one word
+abbrev pub excess_kind : Excess → List ℕ
+excess_kind (NodesAt input number most) = codes "too-many-nodes"
+excess_kind (Nodes most) = codes "too-many-nodes"
+excess_kind (ClausesAt input number most) = codes "too-many-clauses"
+excess_kind (ClausesFor name most) = codes "too-many-clauses"
+excess_kind (Cases input most) = codes "too-many-cases"
 
 -- the kind of a fault, in one word
 abbrev pub kind_of : RunFault → List ℕ
@@ -38,6 +48,15 @@ kind_of (Member input index name) = codes "member"
 kind_of (Version input index name) = codes "version"
 kind_of (Candidate input number cause) = codes "candidate"
 kind_of (TooManyCases input limit name) = codes "too-many-cases"
+kind_of (TooMany excess) = excess_kind excess
+
+-- the input in which there is too much, if it is in one
+abbrev pub excess_input : Excess → Option Input
+excess_input (NodesAt input number most) = Some input
+excess_input (Nodes most) = None
+excess_input (ClausesAt input number most) = Some input
+excess_input (ClausesFor name most) = None
+excess_input (Cases input most) = Some input
 
 -- the input that a fault is in, if it is in one
 abbrev pub input_in : RunFault → Option Input
@@ -57,6 +76,13 @@ input_in (Member input index name) = Some input
 input_in (Version input index name) = Some input
 input_in (Candidate input number cause) = Some input
 input_in (TooManyCases input limit name) = Some input
+input_in (TooMany excess) = excess_input excess
+
+-- the line at which there is too much, if there is one
+abbrev pub excess_line : Excess → Option ℕ
+excess_line (NodesAt input number most) = Some number
+excess_line (ClausesAt input number most) = Some number
+excess_line excess = None
 
 -- the line that is at fault, if there is one
 abbrev pub line_in : RunFault → Option ℕ
@@ -64,6 +90,7 @@ line_in (Requirement input number error) = Some number
 line_in (NumberAtEnd input number) = Some number
 line_in (Refused input number cause) = Some number
 line_in (Candidate input number cause) = Some number
+line_in (TooMany excess) = excess_line excess
 line_in fault = None
 
 -- the first byte at fault, in the line without its comment, or in the input if there is no line
@@ -102,10 +129,18 @@ message_of (Version input index name) = Some (member_message index (member_name 
 message_of (Candidate input number cause) = Some (cause_text cause)
 message_of (TooManyCases input limit name) =
     Some (codes "more than " ++ decimal limit ++ codes " cases for " ++ name)
+message_of (TooMany excess) = Some (excess_words excess)
 
 -- what precedes a message in a text
 abbrev pub line_place : List ℕ → ℕ → List ℕ
 line_place path number = path ++ codes ": line " ++ decimal number ++ codes ": "
+
+abbrev pub excess_place : (Input → List ℕ) → Excess → List ℕ
+excess_place said (NodesAt input number most) = line_place (said input) number
+excess_place said (Nodes most) = []
+excess_place said (ClausesAt input number most) = line_place (said input) number
+excess_place said (ClausesFor name most) = []
+excess_place said (Cases input most) = said input ++ codes ": "
 
 abbrev pub place_text : (Input → List ℕ) → RunFault → List ℕ
 place_text said (Read input) = said input ++ codes ": "
@@ -124,6 +159,7 @@ place_text said (Member input index name) = said input ++ codes ": "
 place_text said (Version input index name) = said input ++ codes ": "
 place_text said (Candidate input number cause) = line_place (said input) number
 place_text said (TooManyCases input limit name) = said input ++ codes ": "
+place_text said (TooMany excess) = excess_place said excess
 
 -- ---- the object
 

@@ -19,7 +19,7 @@ use reqtable_candidates::{Candidate, Candidates};
 use serde_json::{Value, json};
 use std::alloc::{AllocError, Global};
 
-/// The rows of an answer in a format: as lines, by `Answer::text`, or as an object with an array of them.
+/// The rows of an answer in a format: as lines, by `Answer::text_among`, or as an object with an array of them.
 ///
 /// `candidates` is the list from which the answer was selected. Linear in the text; an object needs memory
 /// for its values in addition to its text.
@@ -31,15 +31,15 @@ pub fn answer_text(
     alloc: Global,
     format: Format,
     answer: &Answer,
-    candidates: &Candidates,
+    candidates: &[Candidate],
 ) -> Result<String, AllocError>
     requires { All (λ row. IsTakenBelow (length candidates.now) row.outcome) answer.now.rows.items }
     ensures { IfOk result (λ text.
         string_bytes text ≡ rows_text format candidates.now (map row_seen answer.now.rows.items)) }
 {
     match format {
-        Format::Text => answer.text(alloc, candidates),
-        Format::Json => answer_line(alloc, &answer.rows, candidates.items()),
+        Format::Text => answer.text_among(alloc, candidates),
+        Format::Json => answer_line(alloc, &answer.rows, candidates),
     }
 }
 

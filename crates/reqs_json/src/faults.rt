@@ -10,12 +10,12 @@ ghost use Rattle.reqs_io_faults.specs.Ends.{of_input};
 ghost use Rattle.reqs_io_faults.specs.declared.fault.RunFault.TheVariants.{Memory};
 ghost use Rattle.reqs_json.specs.Lines.{number_of, value_or_null, line_of};
 ghost use Rattle.reqs_json.specs.Faults.{kind_of, input_in, line_in, start_in, length_in, place_in};
-ghost use Rattle.reqs_json.specs.Faults.{nowhere, usage_value};
+ghost use Rattle.reqs_json.specs.Faults.{nowhere, usage_value, excess_kind, excess_input, excess_line};
 ghost use Rattle.reqs_json.specs.Faults.{error_members, error_value, fault_value, IsFaultLine};
 
 use crate::json_lines::line_of;
 use crate::messages::message_of;
-use reqs_io_faults::{Input, RunFault};
+use reqs_io_faults::{Excess, Input, RunFault};
 use serde_json::{Value, json};
 use std::alloc::{AllocError, Global};
 
@@ -166,6 +166,7 @@ fn input_in(fault: &RunFault) -> Option<Input>
 {
     match fault {
         RunFault::Write | RunFault::Memory | RunFault::Extra { .. } => None,
+        RunFault::TooMany(excess) => excess_input(excess),
         RunFault::Read { input }
         | RunFault::TooLong { input }
         | RunFault::NotText { input, .. }
@@ -179,6 +180,18 @@ fn input_in(fault: &RunFault) -> Option<Input>
         | RunFault::Version { input, .. }
         | RunFault::Candidate { input, .. }
         | RunFault::TooManyCases { input, .. } => Some(*input),
+    }
+}
+
+/// The input in which there is too much, if it is in one.
+fn excess_input(excess: &Excess) -> Option<Input>
+    ensures { result ≡ excess_input excess.now }
+{
+    match excess {
+        Excess::NodesAt { input, .. }
+        | Excess::ClausesAt { input, .. }
+        | Excess::Cases { input, .. } => Some(*input),
+        Excess::Nodes { .. } | Excess::ClausesFor { .. } => None,
     }
 }
 
@@ -202,6 +215,17 @@ fn line_in(fault: &RunFault) -> Option<usize>
         | RunFault::NumberAtEnd { number, .. }
         | RunFault::Refused { number, .. }
         | RunFault::Candidate { number, .. } => Some(*number),
+        RunFault::TooMany(excess) => excess_line(excess),
+        _ => None,
+    }
+}
+
+/// The number of the line at which there is too much, if there is one.
+fn excess_line(excess: &Excess) -> Option<usize>
+    ensures { result ≡ excess_line excess.now }
+{
+    match excess {
+        Excess::NodesAt { number, .. } | Excess::ClausesAt { number, .. } => Some(*number),
         _ => None,
     }
 }
@@ -248,5 +272,17 @@ fn kind_of(fault: &RunFault) -> &'static str
         RunFault::Version { .. } => "version",
         RunFault::Candidate { .. } => "candidate",
         RunFault::TooManyCases { .. } => "too-many-cases",
+        RunFault::TooMany(excess) => excess_kind(excess),
+    }
+}
+
+/// The kind of what there is too much of, in one word.
+fn excess_kind(excess: &Excess) -> &'static str
+    ensures { result.now ≡ excess_kind excess.now }
+{
+    match excess {
+        Excess::NodesAt { .. } | Excess::Nodes { .. } => "too-many-nodes",
+        Excess::ClausesAt { .. } | Excess::ClausesFor { .. } => "too-many-clauses",
+        Excess::Cases { .. } => "too-many-cases",
     }
 }

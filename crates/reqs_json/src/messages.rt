@@ -29,6 +29,7 @@ pub(crate) fn message_of(alloc: Global, fault: &RunFault) -> Result<String, Allo
         RunFault::Refused { cause, .. } => format!(in alloc; "{cause}"),
         RunFault::Candidate { cause, .. } => format!(in alloc; "{cause}"),
         RunFault::TooManyCases { limit, package, .. } => cases_message(alloc, *limit, package),
+        RunFault::TooMany(excess) => excess.to_string(alloc),
         _ => environment_message(alloc, fault),
     }
 }

@@ -6,3 +6,4 @@ pub mod Plain
 pub mod RisingSets
 pub mod Told
 pub mod Trees
+pub mod Long

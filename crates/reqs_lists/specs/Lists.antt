@@ -8,6 +8,7 @@ use Rattle.reqtable_candidates.specs.TextLines.{text_lines}
 use Rattle.reqtable_requirements.specs.LineReading.{LineRecord}
 use Rattle.reqtable_requirements.specs.Requirements.{IsErrorIn, StandsFor}
 use Rattle.reqtable_requirements.specs.declared.requirements.Line.{Line}
+use Rattle.reqs_io_faults.specs.declared.fault.Input.{Input}
 use Rattle.reqs_io_faults.specs.declared.fault.Input.TheVariants.{First, Second}
 use Rattle.reqs_io_faults.specs.declared.fault.RunFault.{RunFault}
 use Rattle.reqs_io_faults.specs.declared.fault.RunFault.TheVariants.{Memory}
@@ -15,6 +16,7 @@ use Rattle.reqs_io_faults.specs.declared.fault.Status.{Status}
 use Rattle.reqs_io_faults.specs.Ends.{of_input}
 use Rattle.reqs_io_faults.specs.Faults.{Cause, IsOfInputs, Refuses}
 use Rattle.reqs_io_faults.specs.Inputs.{◌>>=◌, lines_from}
+use Rattle.reqs_io_faults.specs.Within.{PassesAt}
 use Rattle.reqs_lists.specs.declared.answer.Answer.{Answer}
 
 -- the fault is in texts each of which is a list of requirements: its error of an invalid line is that of some
@@ -52,6 +54,16 @@ pub record AreBothRead (nodes : List NodeRecord) (left right : List Line) : Type
 -- lists are parsed to values with this property
 abbrev pub IsRead : {A : Type 0} → Result A Cause → (A → Type 0) → Type 0
 IsRead {A} lists Holds = (read : A) × (lists ≡ Ok read) × Holds read
+
+-- a bound on the nodes was passed at a line of the first list
+abbrev pub PassesInFirst : Variables → ℕ → List NodeRecord → List (List ℕ) → RunFault → Type 0
+PassesInFirst vars most nodes inputs = PassesAt vars First most nodes (of_input inputs First)
+
+-- a bound on the nodes was passed at a line of the first list, or of the second once the first was parsed
+abbrev pub PassesInEither : Variables → ℕ → List NodeRecord → List (List ℕ) → RunFault → Type 0
+PassesInEither vars most nodes inputs fault =
+    PassesInFirst vars most nodes inputs fault
+    ⊎ IsRead (one_list vars inputs) (λ left. PassesAt vars Second most nodes (of_input inputs Second) fault)
 
 -- ---- answers
 

@@ -3,7 +3,8 @@
 //! The marker of a difference that is everywhere is null in JSON: a text that is no marker would be taken
 //! for one.
 
-ghost use Rattle.std.specs.Prelude.{◌≡◌, ◌≢◌, ◌∷◌, ◌++◌, [], List, codes, IfErr, IfOk, string_bytes};
+ghost use Rattle.std.specs.Prelude.{◌≡◌, ◌≢◌, ◌≤◌, ◌∷◌, ◌++◌, [], List, length, codes, IfErr, IfOk};
+ghost use Rattle.std.specs.Prelude.{string_bytes};
 ghost use Rattle.std.specs.List.{AllZip};
 ghost use Rattle.pep508_url.specs.Vars.{Variables};
 ghost use Rattle.pep508_diagram.specs.Question.{IsCanonical};
@@ -11,22 +12,26 @@ ghost use Rattle.pep508_diagram.specs.Shortened.{HasShortVersions};
 ghost use Rattle.pep508_tree.specs.Meaning.{IsTree, diagram_of};
 ghost use Rattle.reqtable_requirements.specs.LineReading.{LineRecord};
 ghost use Rattle.reqtable_requirements.specs.Requirements.{StandsFor};
+ghost use Rattle.reqs_io_faults.specs.Within.{Bounded};
 ghost use Rattle.reqs_lists.specs.Lists.{IsOfLists, AreBothRead, AnswersLists, Gives, two_lists};
 ghost use Rattle.serde_json.specs.View.{view};
 ghost use Rattle.serde_json.specs.Data.{string};
 ghost use Rattle.pep508_marker_text_laws.specs.MarkerText.{marker_text};
 ghost use Rattle.reqs_json.specs.Lines.{line_of, value_or_null};
-ghost use Rattle.reqs_lists.specs.Comparison.{difference_text, IsSameAnswer, CantBeCompared};
+ghost use Rattle.reqs_lists.specs.Comparison.{difference_text, CantBeWithin, OutgrowsOrCases};
 ghost use Rattle.reqs_lists.specs.Comparison.{same_value, difference_value, same_in, difference_in};
 ghost use Rattle.reqs_lists.specs.Comparison.{input_of, line_fault, fault_of, RunsSame};
+ghost use Rattle.reqs_lists.specs.Comparison.{ComparesOrRefuses, SamePasses, RunsSameWithin};
+ghost use Rattle.reqs_lists.specs.Comparison.{IsFewSame, TellsWithin, OutgrowsOrLong};
 
 use crate::answer::Answer;
-use pep508_marker_display::MarkerTreeText;
+use pep508_marker_display::{MarkerTreeText, has_more_clauses};
 use pep508_name::PackageName;
 use pep508_tree::{Interner, MarkerTree};
 use pep508_url::Vars;
 use reqs_io_faults::{
-    Input, RefusedCause, RunFault, Status, read_input, read_requirements, write_answer,
+    Bounds, Excess, Input, RefusedCause, RunFault, Status, read_input, requirements_within,
+    write_answer,
 };
 use reqs_json::{Format, line_of};
 use reqtable_compare::{LineCause, Same, SameError, Side};
@@ -67,9 +72,61 @@ pub fn same<L: Read, R: Read, W: Write>(
     // A refused command has written nothing.
     ensures unwritten { IfErr result (λ fault. fault ≢ RunFault.Write → output.new ≡ output.old) }
 {
+    let mut interner = Interner::new(alloc);
+    let none = Bounds::none();
+    let _ = interner.node_count();
+    match same_within(
+        alloc,
+        left,
+        right,
+        vars,
+        limit,
+        format,
+        none,
+        &mut interner,
+        output,
+    ) {
+        Ok(status) => Ok(status),
+        Err(fault) => Err(fault.unbounded()),
+    }
+}
+
+/// Writes whether two lists require the same as `same` does, unless that passes a bound.
+///
+/// The trees are made in `interner`, best a fresh one by `Interner::with_most(alloc, bounds.nodes)`, which
+/// also stops in the middle of a tree. The nodes of both lists count together, their cases apart.
+///
+/// # Errors
+///
+/// Those of `same`; and in `RunFault::TooMany`, once a whole list is known to be valid, `Excess::NodesAt` for
+/// its first line after whose tree there are more than `bounds.nodes` nodes, the left list before the right
+/// one is parsed; or `Excess::Nodes` if there are more once the lists are compared; and otherwise
+/// `Excess::Cases` only if all packages of a list together have more than `bounds.cases` cases, as
+/// `reqtable_compare::same_within` counts them; and otherwise `Excess::ClausesFor` if the marker of the first
+/// difference has more than `bounds.clauses` clauses, counted as `pep508_marker_display::has_more_clauses`
+/// does. Nothing is written then.
+pub fn same_within<L: Read, R: Read, W: Write>(
+    alloc: Global,
+    left: &mut L,
+    right: &mut R,
+    vars: &Vars,
+    limit: u64,
+    format: Format,
+    bounds: Bounds,
+    interner: &mut Interner,
+    output: &mut W,
+) -> Result<Status, RunFault>
+    requires { length interner.old.nodes ≤ bounds.nodes }
+    ensures runs { RunsSameWithin bounds interner.new.nodes format limit vars.now
+        (L.remaining left.old) (R.remaining right.old) W.contents output.old output.new result }
+    // A refused command has written nothing.
+    ensures unwritten { IfErr result (λ fault. fault ≢ RunFault.Write → output.new ≡ output.old) }
+{
     let mut left = read_input(alloc, Input::First, left)?;
     let mut right = read_input(alloc, Input::Second, right)?;
-    let answer = same_answer(alloc, &mut left, &mut right, vars, limit, format)?;
+    let answer = same_answer(
+        alloc, &mut left, &mut right, vars, limit, format, bounds, interner,
+    )?;
     write_answer(output, answer.text.as_str(), answer.status)
 }
 
@@ -81,15 +138,20 @@ fn same_answer(
     vars: &Vars,
     limit: u64,
     format: Format,
+    bounds: Bounds,
+    interner: &mut Interner,
 ) -> Result<Answer, RunFault>
-    ensures { AnswersLists (IsOfLists vars.now (left.old.items ∷ right.old.items ∷ []))
-        (IsSameAnswer format limit) (CantBeCompared limit)
-        (two_lists vars.now (left.old.items ∷ right.old.items ∷ [])) result }
+    requires { length interner.old.nodes ≤ bounds.nodes }
+    ensures { Bounded (AnswersLists (IsOfLists vars.now (left.old.items ∷ right.old.items ∷ []))
+        (IsFewSame format limit bounds.clauses) (CantBeWithin limit bounds.cases)
+        (two_lists vars.now (left.old.items ∷ right.old.items ∷ [])))
+        (length interner.new.nodes ≤ bounds.nodes)
+        (SamePasses bounds interner.new.nodes limit vars.now (left.old.items ∷ right.old.items ∷ [])) result }
 {
-    let mut interner = Interner::new(alloc);
-    let left = read_requirements(alloc, Input::First, left, &mut interner, vars)?;
-    let right = read_requirements(alloc, Input::Second, right, &mut interner, vars)?;
-    same_of(alloc, &left, &right, &mut interner, limit, format)
+    let most = bounds.nodes;
+    let left = requirements_within(alloc, Input::First, left, interner, vars, most)?;
+    let right = requirements_within(alloc, Input::Second, right, interner, vars, most)?;
+    same_of(alloc, &left, &right, interner, limit, format, bounds)
 }
 
 /// The answer on two parsed lists.
@@ -100,22 +162,58 @@ fn same_of(
     interner: &mut Interner,
     limit: u64,
     format: Format,
+    bounds: Bounds,
 ) -> Result<Answer, RunFault>
     requires { AreBothRead interner.old.nodes left.now right.now }
     ensures { (vars : Variables) (said others : List LineRecord) →
         AllZip (StandsFor vars interner.old.nodes) left.now said →
         AllZip (StandsFor vars interner.old.nodes) right.now others →
-        Gives (IsSameAnswer format limit) (CantBeCompared limit) (said, others) result }
+        Bounded (Gives (IsFewSame format limit bounds.clauses) (CantBeWithin limit bounds.cases)
+        (said, others))
+        (length interner.new.nodes ≤ bounds.nodes)
+        (OutgrowsOrLong bounds interner.new.nodes limit (said, others)) result }
 {
-    match reqtable_compare::same(alloc, left, right, interner, limit) {
-        Ok(Same::Yes) => Ok(Answer {
+    match compared_within(alloc, left, right, interner, limit, bounds)? {
+        Same::Yes => Ok(Answer {
             status: Status::Answered,
             text: same_in(alloc, format)?,
         }),
-        Ok(Same::No { package, tree }) => Ok(Answer {
+        Same::No { package, tree } => Ok(Answer {
             status: Status::Different,
-            text: difference_in(alloc, format, &package, tree, interner)?,
+            text: difference_within(alloc, format, package, tree, interner, bounds.clauses)?,
         }),
+    }
+}
+
+/// What is found of two parsed lists.
+fn compared_within(
+    alloc: Global,
+    left: &Requirements,
+    right: &Requirements,
+    interner: &mut Interner,
+    limit: u64,
+    bounds: Bounds,
+) -> Result<Same, RunFault>
+    requires { AreBothRead interner.old.nodes left.now right.now }
+    ensures { (vars : Variables) (said others : List LineRecord) →
+        AllZip (StandsFor vars interner.old.nodes) left.now said →
+        AllZip (StandsFor vars interner.old.nodes) right.now others →
+        Bounded (ComparesOrRefuses limit bounds.cases interner.new.nodes (said, others))
+        (length interner.new.nodes ≤ bounds.nodes)
+        (OutgrowsOrCases bounds interner.new.nodes limit (said, others)) result }
+{
+    let nodes = bounds.nodes;
+    let cases = bounds.cases;
+    let compared = reqtable_compare::same_within(alloc, left, right, interner, limit, cases);
+    if interner.node_count() > nodes {
+        return Err(RunFault::TooMany(Excess::Nodes { most: nodes }));
+    }
+    match compared {
+        Ok(same) => Ok(same),
+        Err(SameError::TooManyCasesInAll { side }) => Err(RunFault::TooMany(Excess::Cases {
+            input: input_of(side),
+            most: cases,
+        })),
         Err(error) => Err(fault_of(error, limit)),
     }
 }
@@ -143,6 +241,31 @@ fn same_value(alloc: Global) -> Result<Value, AllocError>
     ensures { IfOk result (λ value. view value ≡ same_value) }
 {
     json!(in alloc; {"same": true})
+}
+
+/// The text of a difference in a format, whose tree has at most so many clauses.
+#[tactic(auto, using(crate::proofs::Trees::canonical, crate::proofs::Trees::short))]
+fn difference_within(
+    alloc: Global,
+    format: Format,
+    name: PackageName,
+    tree: MarkerTree,
+    interner: &Interner,
+    most: usize,
+) -> Result<String, RunFault>
+    requires { IsTree interner.now.nodes tree }
+    ensures told { TellsWithin format most name (diagram_of interner.now.nodes tree) result }
+    ensures canonical { IsCanonical (diagram_of interner.now.nodes tree) }
+    ensures short { HasShortVersions (diagram_of interner.now.nodes tree) }
+{
+    interner.are_sound();
+    if has_more_clauses(alloc, tree, interner, most)? {
+        return Err(RunFault::TooMany(Excess::ClausesFor {
+            package: name,
+            most,
+        }));
+    }
+    Ok(difference_in(alloc, format, &name, tree, interner)?)
 }
 
 /// The text of a difference in a format: the package, and where the tree holds.
@@ -253,7 +376,7 @@ fn fault_of(error: SameError, limit: u64) -> RunFault
             limit,
             package,
         },
-        SameError::Memory => RunFault::Memory,
+        SameError::TooManyCasesInAll { .. } | SameError::Memory => RunFault::Memory,
     }
 }
 

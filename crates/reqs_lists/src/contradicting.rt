@@ -1,6 +1,6 @@
 //! `conflicts`: the lines of a list that contradict each other.
 
-ghost use Rattle.std.specs.Prelude.{◌≡◌, ◌≢◌, ◌∷◌, [], List, IfErr};
+ghost use Rattle.std.specs.Prelude.{◌≡◌, ◌≢◌, ◌≤◌, ◌∷◌, [], List, length, IfErr};
 ghost use Rattle.std.specs.List.{AllZip};
 ghost use Rattle.pep508_url.specs.Vars.{Variables};
 ghost use Rattle.reqtable_requirements.specs.Asks.{AreOfNodes};
@@ -8,15 +8,21 @@ ghost use Rattle.reqtable_requirements.specs.LineReading.{LineRecord};
 ghost use Rattle.reqtable_requirements.specs.Requirements.{StandsFor};
 ghost use Rattle.reqs_io_faults.specs.declared.fault.Input.TheVariants.{First};
 ghost use Rattle.reqs_io_faults.specs.Inputs.{lines_from};
+ghost use Rattle.reqs_io_faults.specs.Within.{Bounded};
 ghost use Rattle.reqs_lists.specs.Lists.{IsOfLists, AnswersLists, Gives};
-ghost use Rattle.reqs_lists.specs.Contradictions.{IsConflictsAnswer, HasTooManyCases, RunsConflicts};
+ghost use Rattle.reqs_lists.specs.Contradictions.{RunsConflicts, RunsConflictsWithin, IsFewConflicts};
+ghost use Rattle.reqs_lists.specs.Contradictions.{FindsOrRefuses, HasTooManyWithin};
+ghost use Rattle.reqs_lists.specs.Contradictions.{OutgrowsOrCases, ConflictsPass};
 
 use crate::answer::Answer;
 use crate::conflict_lines::conflicts_in;
 use pep508_tree::Interner;
 use pep508_url::Vars;
-use reqs_io_faults::{Input, RunFault, Status, read_input, read_requirements, write_answer};
+use reqs_io_faults::{
+    Bounds, Excess, Input, RunFault, Status, read_input, requirements_within, write_answer,
+};
 use reqs_json::Format;
+use reqtable_conflicts::Conflict;
 use reqtable_requirements::Requirements;
 use reqtable_table::TableError;
 use std::alloc::Global;
@@ -53,8 +59,63 @@ pub fn conflicts<R: Read, W: Write>(
     // A refused command has written nothing.
     ensures unwritten { IfErr result (λ fault. fault ≢ RunFault.Write → output.new ≡ output.old) }
 {
+    let mut interner = Interner::new(alloc);
+    let none = Bounds::none();
+    let _ = interner.node_count();
+    match conflicts_within(
+        alloc,
+        requirements,
+        vars,
+        limit,
+        format,
+        none,
+        &mut interner,
+        output,
+    ) {
+        Ok(status) => Ok(status),
+        Err(fault) => Err(fault.unbounded()),
+    }
+}
+
+/// Writes the conflicts of a list as `conflicts` does, unless that passes a bound. Only the bounds on nodes
+/// and cases matter.
+///
+/// The trees are made in `interner`, best a fresh one by `Interner::with_most(alloc, bounds.nodes)`, which
+/// also stops in the middle of a tree.
+///
+/// # Errors
+///
+/// Those of `conflicts`; and in `RunFault::TooMany`, once the whole list is known to be valid,
+/// `Excess::NodesAt` for the first line after whose tree there are more than `bounds.nodes` nodes, or
+/// `Excess::Nodes` if there are more once the cases are made; and otherwise `Excess::Cases` only if the
+/// packages up to some package, by name, have more than `bounds.cases` cases together, and none before it has
+/// more than `limit`, as `reqtable_conflicts::conflicts_within` counts them. Nothing is written then.
+pub fn conflicts_within<R: Read, W: Write>(
+    alloc: Global,
+    requirements: &mut R,
+    vars: &Vars,
+    limit: u64,
+    format: Format,
+    bounds: Bounds,
+    interner: &mut Interner,
+    output: &mut W,
+) -> Result<Status, RunFault>
+    requires { length interner.old.nodes ≤ bounds.nodes }
+    ensures runs { RunsConflictsWithin bounds interner.new.nodes format limit vars.now
+        (R.remaining requirements.old) W.contents output.old output.new result }
+    // A refused command has written nothing.
+    ensures unwritten { IfErr result (λ fault. fault ≢ RunFault.Write → output.new ≡ output.old) }
+{
     let mut requirements = read_input(alloc, Input::First, requirements)?;
-    let answer = conflicts_answer(alloc, &mut requirements, vars, limit, format)?;
+    let answer = conflicts_answer(
+        alloc,
+        &mut requirements,
+        vars,
+        limit,
+        format,
+        bounds,
+        interner,
+    )?;
     write_answer(output, answer.text.as_str(), answer.status)
 }
 
@@ -65,14 +126,20 @@ fn conflicts_answer(
     vars: &Vars,
     limit: u64,
     format: Format,
+    bounds: Bounds,
+    interner: &mut Interner,
 ) -> Result<Answer, RunFault>
-    ensures { AnswersLists (IsOfLists vars.now (requirements.old.items ∷ []))
-        (IsConflictsAnswer format limit) (HasTooManyCases limit)
-        (lines_from vars.now First requirements.old.items) result }
+    requires { length interner.old.nodes ≤ bounds.nodes }
+    ensures { Bounded (AnswersLists (IsOfLists vars.now (requirements.old.items ∷ []))
+        (IsFewConflicts format limit bounds.cases) (HasTooManyWithin limit bounds.cases)
+        (lines_from vars.now First requirements.old.items))
+        (length interner.new.nodes ≤ bounds.nodes)
+        (ConflictsPass bounds interner.new.nodes limit vars.now (requirements.old.items ∷ [])) result }
 {
-    let mut interner = Interner::new(alloc);
-    let requirements = read_requirements(alloc, Input::First, requirements, &mut interner, vars)?;
-    conflicts_of(alloc, &requirements, &mut interner, limit, format)
+    let most = bounds.nodes;
+    let first = Input::First;
+    let requirements = requirements_within(alloc, first, requirements, interner, vars, most)?;
+    conflicts_of(alloc, &requirements, interner, limit, format, bounds)
 }
 
 /// The answer on a parsed list.
@@ -82,22 +149,53 @@ fn conflicts_of(
     interner: &mut Interner,
     limit: u64,
     format: Format,
+    bounds: Bounds,
 ) -> Result<Answer, RunFault>
     requires { AreOfNodes interner.old.nodes requirements.now }
     ensures { (vars : Variables) (said : List LineRecord) →
         AllZip (StandsFor vars interner.old.nodes) requirements.now said →
-        Gives (IsConflictsAnswer format limit) (HasTooManyCases limit) said result }
+        Bounded (Gives (IsFewConflicts format limit bounds.cases) (HasTooManyWithin limit bounds.cases) said)
+        (length interner.new.nodes ≤ bounds.nodes)
+        (OutgrowsOrCases bounds interner.new.nodes limit said) result }
 {
-    match reqtable_conflicts::conflicts(alloc, requirements, interner, limit) {
-        Ok(conflicts) => Ok(Answer {
-            status: Status::Answered,
-            text: conflicts_in(alloc, format, &conflicts)?,
-        }),
+    let conflicts = found_within(alloc, requirements, interner, limit, bounds)?;
+    Ok(Answer {
+        status: Status::Answered,
+        text: conflicts_in(alloc, format, &conflicts)?,
+    })
+}
+
+/// The conflicts of a parsed list.
+fn found_within(
+    alloc: Global,
+    requirements: &Requirements,
+    interner: &mut Interner,
+    limit: u64,
+    bounds: Bounds,
+) -> Result<Vec<Conflict>, RunFault>
+    requires { AreOfNodes interner.old.nodes requirements.now }
+    ensures { (vars : Variables) (said : List LineRecord) →
+        AllZip (StandsFor vars interner.old.nodes) requirements.now said →
+        Bounded (FindsOrRefuses limit bounds.cases said) (length interner.new.nodes ≤ bounds.nodes)
+        (OutgrowsOrCases bounds interner.new.nodes limit said) result }
+{
+    let nodes = bounds.nodes;
+    let cases = bounds.cases;
+    let found = reqtable_conflicts::conflicts_within(alloc, requirements, interner, limit, cases);
+    if interner.node_count() > nodes {
+        return Err(RunFault::TooMany(Excess::Nodes { most: nodes }));
+    }
+    match found {
+        Ok(conflicts) => Ok(conflicts),
         Err(TableError::TooManyCases { package }) => Err(RunFault::TooManyCases {
             input: Input::First,
             limit,
             package,
         }),
+        Err(TableError::TooManyCasesInAll) => Err(RunFault::TooMany(Excess::Cases {
+            input: Input::First,
+            most: cases,
+        })),
         Err(TableError::Memory) => Err(RunFault::Memory),
     }
 }

@@ -14,6 +14,6 @@ mod contradicting;
 pub mod laws;
 mod normalizing;
 
-pub use comparing::same;
-pub use contradicting::conflicts;
-pub use normalizing::normal;
+pub use comparing::{same, same_within};
+pub use contradicting::{conflicts, conflicts_within};
+pub use normalizing::{normal, normal_within};

@@ -34,7 +34,7 @@ fn counted(alloc: Global, lines: &str, limit: u64) -> Result<String, AllocError>
             let count = interner.conjunctions();
             format!(in alloc; "too many: {package}, {count}")
         }
-        Err(TableError::Memory) => Err(AllocError),
+        Err(TableError::TooManyCasesInAll | TableError::Memory) => Err(AllocError),
     }
 }
 

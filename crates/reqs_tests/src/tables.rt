@@ -103,7 +103,7 @@ fn cases_shown(alloc: Global, lines: &str, name: &str, limit: u64) -> Result<Str
     match Table::build(alloc, read, &mut interner, limit) {
         Ok(table) => cases_of(alloc, &table, name),
         Err(TableError::TooManyCases { package }) => format!(in alloc; "too many: {package}"),
-        Err(TableError::Memory) => Err(AllocError),
+        Err(TableError::TooManyCasesInAll | TableError::Memory) => Err(AllocError),
     }
 }
 
@@ -131,6 +131,96 @@ fn cases_stand_by_their_lines(rt: HostRuntime) -> Result<(), Fail> {
         ("foo", 2, "too many: foo"),
     ] {
         assert_eq!(rt; cases_shown(rt.alloc(), lines, name, limit)?.as_str(), want);
+    }
+    Ok(())
+}
+
+/// The number of packages of a table with no more than `in_all` cases together, or why there is none.
+fn built_within(alloc: Global, lines: &str, limit: u64, in_all: u64) -> Result<String, AllocError> {
+    let vars = Vars::new(alloc, &[], "/w")?;
+    let mut interner = Interner::new(alloc);
+    let Ok(read) = Requirements::parse(alloc, lines.as_bytes(), &mut interner, &vars) else {
+        return String::from_str(alloc, "refused");
+    };
+    match Table::build_within(alloc, read, &mut interner, limit, in_all) {
+        Ok(table) => {
+            let packages = table.len();
+            format!(in alloc; "{packages} packages")
+        }
+        Err(TableError::TooManyCases { package }) => format!(in alloc; "too many: {package}"),
+        Err(TableError::TooManyCasesInAll) => String::from_str(alloc, "too many in all"),
+        Err(TableError::Memory) => Err(AllocError),
+    }
+}
+
+// There are two cases of bar, and three of foo.
+#[test]
+fn cases_are_bounded_together(rt: HostRuntime) -> Result<(), Fail> {
+    let lines = "bar ; os_name == 'nt'\nfoo ; os_name == 'nt'\nfoo ; os_name == 'posix'";
+    for (limit, in_all, want) in [
+        (3, 5, "2 packages"),
+        (3, u64::MAX, "2 packages"),
+        (3, 4, "too many in all"),
+        (2, 5, "too many: foo"),
+        (2, 4, "too many: foo"),
+        (2, 3, "too many in all"),
+        (1, 5, "too many: bar"),
+        (1, 0, "too many in all"),
+        (0, 0, "too many: bar"),
+    ] {
+        assert_eq!(rt;
+            built_within(rt.alloc(), lines, limit, in_all)?.as_str(),
+            want
+        );
+    }
+    assert_eq!(rt; built_within(rt.alloc(), "", 0, 0)?.as_str(), "0 packages");
+    Ok(())
+}
+
+/// The cases of a package by the numbers of their lines, each with whether its range has version 1.5: `+` or
+/// `-`, or `?` for a case without a range.
+fn ranges_of(alloc: Global, table: &Table, name: &str) -> Result<String, AllocError> {
+    let name = PackageName::from_str(alloc, name).or(Err(AllocError))?;
+    let version = Version::from_str(alloc, "1.5").or(Err(AllocError))?;
+    let mut text = String::new(alloc);
+    for case in table.cases(&name).unwrap_or(&[]) {
+        let sign = match table.range(alloc, &name, case)? {
+            Some(range) => sign_of(range.contains(&version)),
+            None => "?",
+        };
+        write!(text, "{:?}{sign}", case.lines)?;
+    }
+    Ok(text)
+}
+
+fn sign_of(has: bool) -> &'static str {
+    if has { "+" } else { "-" }
+}
+
+fn ranges_shown(alloc: Global, lines: &str, name: &str) -> Result<String, AllocError> {
+    let vars = Vars::new(alloc, &[], "/w")?;
+    let mut interner = Interner::new(alloc);
+    let Ok(read) = Requirements::parse(alloc, lines.as_bytes(), &mut interner, &vars) else {
+        return String::from_str(alloc, "refused");
+    };
+    match Table::build(alloc, read, &mut interner, 8) {
+        Ok(table) => ranges_of(alloc, &table, name),
+        Err(_) => String::from_str(alloc, "refused"),
+    }
+}
+
+#[test]
+fn a_case_has_the_range_of_its_lines(rt: HostRuntime) -> Result<(), Fail> {
+    for (lines, want) in [
+        (
+            "foo>1 ; os_name == 'a'\nbar<1\nfoo!=1.5 ; os_name == 'b'",
+            "[1]+[3]-[]+",
+        ),
+        ("foo===1.5\nfoo<1 ; os_name == 'a'", "[1, 2]?[1]?"),
+        ("foo @ ./c ; os_name == 'a'\nfoo<2", "[1, 2]?[2]+"),
+        ("bar<1", ""),
+    ] {
+        assert_eq!(rt; ranges_shown(rt.alloc(), lines, "foo")?.as_str(), want);
     }
     Ok(())
 }

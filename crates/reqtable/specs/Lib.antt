@@ -20,6 +20,8 @@ pub use Rattle.reqtable_requirements.specs.LineSpecifiers
 pub use Rattle.reqtable_requirements.specs.LineText
 pub use Rattle.reqtable_requirements.specs.ReadLines
 pub use Rattle.reqtable_requirements.specs.Requirements
+pub use Rattle.reqtable_requirements.specs.Within as BoundedReading
+pub use Rattle.reqtable_streaming.specs.Selection as Selections
 pub use Rattle.reqtable_normal.specs.Normalized
 pub use Rattle.reqtable_normal.specs.Bounded
 pub use Rattle.reqtable_normal.specs.Errors as NormalErrors
@@ -31,6 +33,7 @@ pub use Rattle.reqtable_cases.specs.Requires
 pub use Rattle.reqtable_cases.specs.Conflicts
 pub use Rattle.reqtable_table.specs.Kept
 pub use Rattle.reqtable_table.specs.Cases
+pub use Rattle.reqtable_table.specs.InAll
 pub use Rattle.reqtable_table.specs.Casing
 pub use Rattle.reqtable_table.specs.Counts
 pub use Rattle.reqtable_table.specs.Answers

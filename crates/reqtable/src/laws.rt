@@ -8,4 +8,5 @@ pub use reqtable_compare::laws as comparisons;
 pub use reqtable_conflicts::laws as contradictions;
 pub use reqtable_normal::laws as normal_texts;
 pub use reqtable_requirements::laws as requirement_lists;
+pub use reqtable_streaming::laws as selections;
 pub use reqtable_table_laws as tables;

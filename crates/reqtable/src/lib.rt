@@ -20,6 +20,13 @@
 //! let answer = lines.judge(alloc, &environment, &extras, &candidates, &admission)?;
 //! ```
 //!
+//! Nor does it need a list of candidates, if they are judged while they are read:
+//!
+//! ```text
+//! let selection = judge_text(alloc, &lines, &environment, &extras, candidates_text, &admission)?;
+//! let text = selection.answer.text_among(alloc, &selection.candidates)?;
+//! ```
+//!
 //! Without any environment, a list has one normal text and a list of the lines that contradict each other;
 //! and two lists of one interner can be compared:
 //!
@@ -59,8 +66,9 @@ pub use reqtable_answer::{
 pub use reqtable_candidates::{
     Candidate, CandidateFault, Candidates, CandidatesError, Ordered, Placed,
 };
-pub use reqtable_compare::{LineCause, Same, SameError, Side, same};
-pub use reqtable_conflicts::{Conflict, conflicts};
+pub use reqtable_compare::{LineCause, Same, SameError, Side, same, same_within};
+pub use reqtable_conflicts::{Conflict, conflicts, conflicts_within};
 pub use reqtable_normal::{NormalCause, NormalError, normal, normal_within};
 pub use reqtable_requirements::{Line, MarkedLine, MarkedLines, Requirements, RequirementsError};
+pub use reqtable_streaming::{Selection, judge_text};
 pub use reqtable_table::{Case, Runs, Table, TableError};

@@ -98,7 +98,19 @@ impl Answer {
         ensures { IfOk result (λ text.
             string_bytes text ≡ answer_text candidates.now (map row_seen self.now.rows.items)) }
     {
-        let candidates = candidates.items();
+        self.text_among(alloc, candidates.items())
+    }
+
+    /// The rows as lines of text, as `text` has them, for candidates that stand in a slice.
+    ///
+    /// # Errors
+    ///
+    /// `AllocError` when memory runs out.
+    pub fn text_among(&self, alloc: Global, candidates: &[Candidate]) -> Result<String, AllocError>
+        requires { All (λ row. IsTakenBelow (length candidates.now) row.outcome) self.now.rows.items }
+        ensures { IfOk result (λ text.
+            string_bytes text ≡ answer_text candidates.now (map row_seen self.now.rows.items)) }
+    {
         let mut text = String::new(alloc);
         for row in &self.rows {
             push_row(&mut text, row, candidates)?;

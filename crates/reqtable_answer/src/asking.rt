@@ -13,7 +13,7 @@ use pep440_version::Version;
 use reqtable_range::OneRange;
 use std::alloc::{AllocError, Global};
 
-/// Whether some requirement has a URL.
+/// Whether some requirement has a URL. Linear in the requirements.
 pub fn is_direct(asks: &[Ask<'_>]) -> bool
     ensures { result ≡ list_any (λ ask. has_url (ask_seen ask)) asks.now }
 {
@@ -29,7 +29,7 @@ fn has_url(ask: &Ask<'_>) -> bool
     }
 }
 
-/// Whether some specifier names a pre-release or developmental release.
+/// Whether some specifier names a pre-release or developmental release. Linear in the specifiers.
 pub fn names_prerelease(asks: &[Ask<'_>]) -> bool
     ensures { result ≡ list_any (λ ask. has_prerelease (ask_seen ask)) asks.now }
 {
@@ -64,8 +64,13 @@ pub fn may_be_taken<F: Fn(&Version, bool) -> bool>(
     Ok(taken && admission.admits(version, names_prerelease))
 }
 
-/// Whether all requirements accept the version: decided by their range, where that decides it.
-fn all_take(
+/// Whether all requirements accept the version: decided by their range, where that decides it, and otherwise
+/// tested against each, up to the first that doesn't. Allocates no memory of its own.
+///
+/// # Errors
+///
+/// `AllocError` when memory runs out.
+pub fn all_take(
     alloc: Global,
     asks: &[Ask<'_>],
     range: &Option<OneRange<'_>>,

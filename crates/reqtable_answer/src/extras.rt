@@ -14,6 +14,12 @@ use pep508_name::ExtraName;
 use std::alloc::{AllocError, Global};
 
 /// The extras that any of these requirements names, each once and in the order of their bytes.
+///
+/// With n extras, repetitions included, that are O(n log n) comparisons of names.
+///
+/// # Errors
+///
+/// `AllocError` when memory runs out.
 pub fn extras_of(alloc: Global, asks: &[Ask<'_>]) -> Result<Vec<ExtraName>, AllocError>
     ensures rise { IfOk result (λ extras. IsStrictlySortedBy (slice_cmp nat_cmp) extras.items) }
     ensures are { IfOk result (λ extras. (extra : List ℕ) →

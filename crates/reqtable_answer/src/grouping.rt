@@ -2,7 +2,8 @@
 //!
 //! Candidates are grouped only under packages that are asked for, in one pass.
 
-ghost use Rattle.std.specs.Prelude.{◌≡◌, ℕ, ◌&&◌, ◌||◌, List, [], ◌∷◌, ◌++◌, filter, IfOk, OnOk};
+ghost use Rattle.std.specs.Prelude.{◌≡◌, ℕ, ◌<◌, ◌&&◌, ◌||◌, List, [], ◌∷◌, ◌++◌, filter, length};
+ghost use Rattle.std.specs.Prelude.{IfOk, OnOk, OnErr};
 ghost use Rattle.std.specs.List.{list_any, enumerate_from};
 ghost use Rattle.reqtable_answer.specs.Asks.{is_of, is_candidate};
 ghost use Rattle.reqtable_answer.specs.Groups.{asks_for, has_group, candidates_for, numbered_seen};
@@ -42,13 +43,20 @@ pub fn by_package<'a>(
     Ok(groups)
 }
 
-/// The required packages, with the requirements on them and no candidates.
-fn asks_by_package<'a>(alloc: Global, asks: &[Ask<'a>]) -> Result<Groups<'a>, AllocError>
+/// The required packages, with the requirements on them, in their order, and no candidates.
+///
+/// With A requirements on P packages that are O(A log P) comparisons of names.
+///
+/// # Errors
+///
+/// `AllocError` when memory runs out.
+pub fn asks_by_package<'a>(alloc: Global, asks: &[Ask<'a>]) -> Result<Groups<'a>, AllocError>
     ensures packages { IfOk result (λ groups. (q : List ℕ) →
         has_group groups q ≡ list_any (is_of q) (asks_seen asks.now)) }
     ensures asks { IfOk result (λ groups. (q : List ℕ) →
         asks_for groups q ≡ filter (is_of q) (asks_seen asks.now)) }
     ensures candidates { IfOk result (λ groups. (q : List ℕ) → candidates_for groups q ≡ []) }
+    ensures grown { OnErr result (0 < length asks.now) }
 {
     let mut groups: Groups<'a> = BTreeMap::new(alloc);
     for ask in asks {

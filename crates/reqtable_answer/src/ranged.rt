@@ -29,6 +29,10 @@ const FEW_QUESTIONS: usize = 1024;
 /// Needs the O(n log n) comparisons of versions of `one_range` for n specifiers, and memory for one reference
 /// per list. Where it is `None`, each of n specifiers is tested against fewer than 16 candidates, or all of
 /// them together at most 1,024 times.
+///
+/// # Errors
+///
+/// `AllocError` when memory runs out.
 pub fn range_of<'a>(
     alloc: Global,
     asks: &[Ask<'a>],

@@ -248,8 +248,22 @@ fn split_at_white(text: &str) -> Option<(&str, &str)>
     Some((name, rest.trim_start()))
 }
 
+/// Reads the candidate of a line that is not blank, without its end and comment: a name, white space and a
+/// version, as `Candidates::parse` reads them. `number` is the line's, which an error repeats.
+///
+/// Linear in the line.
+///
+/// # Errors
+///
+/// `CandidatesError::Line` with the number and the first fault of the line's shape, its name and its version.
+/// `CandidatesError::Memory` when memory runs out; rejecting a line for its shape or name never fails for lack
+/// of memory.
 #[tactic(auto, unfolding(crate::specs::CandidateLine::candidate_of, pep508_name::specs::Name::name_of))]
-fn read_candidate(alloc: Global, number: usize, text: &str) -> Result<Candidate, CandidatesError>
+pub fn read_candidate(
+    alloc: Global,
+    number: usize,
+    text: &str,
+) -> Result<Candidate, CandidatesError>
     ensures answered { Answers (λ candidate. candidate) told_candidates result
         (candidate_at number text.now) }
     ensures named { OnOk result (IsTrue (has_name (trim text.now))) }

@@ -10,5 +10,5 @@ pub mod ordered;
 pub mod pieces;
 pub mod text_lines;
 
-pub use candidates::{Candidate, CandidateFault, Candidates, CandidatesError};
+pub use candidates::{Candidate, CandidateFault, Candidates, CandidatesError, read_candidate};
 pub use ordered::{Ordered, Placed};

@@ -11,13 +11,13 @@ use Rattle.reqtable_requirements.specs.LineReading.{LineRecord}
 use Rattle.reqtable_requirements.specs.Requirements.{StandsFor}
 use Rattle.reqtable_requirements.specs.declared.requirements.Line.{Line}
 use Rattle.reqtable_compare.proofs.Kept.{lines_kept}
-use Rattle.reqtable_table.specs.Cases.{HasItsCases}
+use Rattle.reqtable_table.specs.Cases.{Builds, HasItsCases}
 use Rattle.reqtable_table.specs.Kept.{KeptPackage}
 use Rattle.reqtable_table.proofs.Packages.{has_kept}
 use Rattle.reqtable_compare.specs.declared.sides.Same.{Same}
 use Rattle.reqtable_compare.specs.declared.sides.SameError.{SameError}
 use Rattle.reqtable_compare.specs.declared.sides.Side.TheVariants.{Left, Right}
-use Rattle.reqtable_compare.specs.Compared.{Compares, TablesSide}
+use Rattle.reqtable_compare.specs.Compared.{Compares}
 use Rattle.reqtable_compare.specs.declared.comparing.Place.{Place}
 use Rattle.reqtable_compare.specs.declared.refusing.Refused.{Refused}
 use Rattle.reqtable_compare.specs.Differences.{ComparesTables, FindsPlace, IsFirstPlace, listed, place_seen}
@@ -95,8 +95,8 @@ pub answered : (vars : Variables) (old one two new : List NodeRecord) (limit : �
     (result : Result Same SameError) → AllZip (StandsFor vars old) left said → AllZip (StandsFor vars old) right others →
     Rise left → Rise right → lines_refusal Left left (lines_refusal Right right None) ≡ None →
     AreOpen limit left right names → Extends old one → Extends one two →
-    TablesSide Left limit one (said_among names said) (Ok ours) →
-    TablesSide Right limit two (said_among names others) (Ok theirs) →
+    Builds limit one (said_among names said) (Ok ours) →
+    Builds limit two (said_among names others) (Ok theirs) →
     ComparesTables two new (listed left ours) (listed right theirs) names result → Compares limit new said others result
 answered vars old one two new limit names left right ours theirs said others result h h' rise rise' none are_open keeps more
     built built' is =

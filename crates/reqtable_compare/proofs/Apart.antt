@@ -12,7 +12,7 @@ use Rattle.pep508_cases.proofs.Counting.{marks_total}
 use Rattle.pep508_cases.proofs.Marks.{marks_is}
 use Rattle.reqtable_requirements.specs.declared.requirements.Line.{Line}
 use Rattle.reqtable_table.specs.Cases.{IsCaseOf, HasItsCases, cases_under}
-use Rattle.reqtable_table.specs.Kept.{KeptLine, KeptCase, KeptPackage}
+use Rattle.reqtable_table.specs.Kept.{KeptLine, KeptCase, KeptPackage, kept_under}
 use Rattle.reqtable_compare.specs.Summed.{SummaryRecord}
 use Rattle.reqtable_compare.specs.Totals.{IsSummed, AreSummed, no_lines}
 use Rattle.reqtable_compare.specs.Pairs.{PassesAll, AreApart, ArePartners}
@@ -82,37 +82,37 @@ two_apart nodes marking lines kept s t case other a b st tt' ca ob isa isb less 
     (λ i. left i && right i)
     ∙ not_both (marking v) a.0 b.0 (same_marks (marking v) a.0) (same_marks (marking v) b.0) refl refl less
 
-apart_from : (nodes : List NodeRecord) (marking : Marking) (lines : List Line) (kept : List KeptLine)
+apart_from : (nodes : List NodeRecord) (marking : Marking) (lines : List Line) (own kept : List KeptLine)
     (s : SummaryRecord) (case : KeptCase) (a : Marks × Tree) (summaries : List SummaryRecord) (cases : List KeptCase)
     (sets : List (Marks × Tree)) → s.tree ≡ case.tree → case.tree ≡ a.1 → IsCase marking nodes a →
-    AllZip (IsSummed lines) summaries cases → AllZip (IsCaseOf kept) cases sets →
+    AllZip (IsSummed lines own) summaries cases → AllZip (IsCaseOf kept) cases sets →
     AllByRecursion (IsCase marking nodes) sets → AllByRecursion (λ y. marks_cmp a.0 y ≡ Less) (sets_of sets) →
     AllByRecursion (λ other. AreDisjoint nodes s.tree other.tree) summaries
-apart_from nodes marking lines kept s case a [] cases sets st ca isa sums of each less = tt
-apart_from nodes marking lines kept s case a (t ∷ summaries) [] sets st ca isa sums of each less = absurd sums
-apart_from nodes marking lines kept s case a (t ∷ summaries) (other ∷ cases) [] st ca isa sums of each less = absurd of
-apart_from nodes marking lines kept s case a (t ∷ summaries) (other ∷ cases) (b ∷ sets) st ca isa sums of each less = (
+apart_from nodes marking lines own kept s case a [] cases sets st ca isa sums of each less = tt
+apart_from nodes marking lines own kept s case a (t ∷ summaries) [] sets st ca isa sums of each less = absurd sums
+apart_from nodes marking lines own kept s case a (t ∷ summaries) (other ∷ cases) [] st ca isa sums of each less = absurd of
+apart_from nodes marking lines own kept s case a (t ∷ summaries) (other ∷ cases) (b ∷ sets) st ca isa sums of each less = (
   two_apart nodes marking lines kept s t case other a b st sums.0.tree ca of.0.tree isa each.0 less.0,
-  apart_from nodes marking lines kept s case a summaries cases sets st ca isa sums.1 of.1 each.1 less.1,
+  apart_from nodes marking lines own kept s case a summaries cases sets st ca isa sums.1 of.1 each.1 less.1,
 )
 
-apart_each : (nodes : List NodeRecord) (marking : Marking) (lines : List Line) (kept : List KeptLine)
+apart_each : (nodes : List NodeRecord) (marking : Marking) (lines : List Line) (own kept : List KeptLine)
     (summaries : List SummaryRecord) (cases : List KeptCase) (sets : List (Marks × Tree)) →
-    AllZip (IsSummed lines) summaries cases → AllZip (IsCaseOf kept) cases sets →
+    AllZip (IsSummed lines own) summaries cases → AllZip (IsCaseOf kept) cases sets →
     AllByRecursion (IsCase marking nodes) sets → IsStrictlySortedBy marks_cmp (sets_of sets) → AreApart nodes summaries
 unfolding IsStrictlySortedBy
-apart_each nodes marking lines kept [] cases sets sums of each rise = tt
-apart_each nodes marking lines kept (s ∷ summaries) [] sets sums of each rise = absurd sums
-apart_each nodes marking lines kept (s ∷ summaries) (case ∷ cases) [] sums of each rise = absurd of
-apart_each nodes marking lines kept (s ∷ summaries) (case ∷ cases) (a ∷ sets) sums of each rise = (
-  apart_from nodes marking lines kept s case a summaries cases sets sums.0.tree of.0.tree each.0 sums.1 of.1 each.1 rise.0,
-  apart_each nodes marking lines kept summaries cases sets sums.1 of.1 each.1 rise.1,
+apart_each nodes marking lines own kept [] cases sets sums of each rise = tt
+apart_each nodes marking lines own kept (s ∷ summaries) [] sets sums of each rise = absurd sums
+apart_each nodes marking lines own kept (s ∷ summaries) (case ∷ cases) [] sums of each rise = absurd of
+apart_each nodes marking lines own kept (s ∷ summaries) (case ∷ cases) (a ∷ sets) sums of each rise = (
+  apart_from nodes marking lines own kept s case a summaries cases sets sums.0.tree of.0.tree each.0 sums.1 of.1 each.1 rise.0,
+  apart_each nodes marking lines own kept summaries cases sets sums.1 of.1 each.1 rise.1,
 )
 
-of_package : (nodes : List NodeRecord) (lines : List Line) (kept : KeptPackage) (summaries : List SummaryRecord) →
-    HasItsCases nodes kept → AllZip (IsSummed lines) summaries kept.cases → AreApart nodes summaries
-of_package nodes lines kept summaries has sums =
-    apart_each nodes (marks_of nodes (map (λ line. line.marker) kept.lines)) lines kept.lines summaries kept.cases has.sets
+of_package : (nodes : List NodeRecord) (lines : List Line) (own : List KeptLine) (kept : KeptPackage) (summaries : List SummaryRecord) →
+    HasItsCases nodes kept → AllZip (IsSummed lines own) summaries kept.cases → AreApart nodes summaries
+of_package nodes lines own kept summaries has sums =
+    apart_each nodes (marks_of nodes (map (λ line. line.marker) kept.lines)) lines own kept.lines summaries kept.cases has.sets
     sums has.each has.are.each has.are.rising
 
 nothing : (nodes : List NodeRecord) (summaries : List SummaryRecord) → summaries ≡ no_lines ∷ [] →
@@ -121,5 +121,7 @@ nothing nodes summaries is = subst (AreApart nodes) (sym is) (tt, tt)
 
 pub apart_under : (nodes : List NodeRecord) (lines : List Line) (name : List ℕ) (table : List KeptPackage)
     (summaries : List SummaryRecord) → AllByRecursion (HasItsCases nodes) table →
-    AreSummed lines (cases_under name table) summaries → AreApart nodes summaries
-apart_under nodes lines = summed_under (AreApart nodes) nodes lines (nothing nodes) (of_package nodes lines)
+    AreSummed lines (kept_under name table) (cases_under name table) summaries → AreApart nodes summaries
+apart_under nodes lines name table =
+    summed_under (AreApart nodes) nodes lines (kept_under name table) (nothing nodes)
+    (of_package nodes lines (kept_under name table)) name table

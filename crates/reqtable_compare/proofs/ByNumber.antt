@@ -149,3 +149,14 @@ extras_said vars nodes (line ∷ lines) (one ∷ said) h rise =
       behind_first line lines said (lifted vars nodes line.number lines said h.1 rise.0)
           (extras_said vars nodes lines said h.1 rise.1),
     )
+
+-- lines that stand for others have their numbers
+pub numbers_alike : (vars : Variables) (nodes : List NodeRecord) (lines : List Line) (said : List LineRecord) →
+    AllZip (StandsFor vars nodes) lines said → numbers_of lines ≡ map (λ (r : LineRecord). r.number) said
+numbers_alike vars nodes [] [] h = refl
+numbers_alike vars nodes [] (one ∷ said) h = absurd h
+numbers_alike vars nodes (line ∷ lines) [] h = absurd h
+numbers_alike vars nodes (line ∷ lines) (one ∷ said) h =
+    let here = h.0.number in
+    let rest = numbers_alike vars nodes lines said h.1 in
+    (λ i. here i ∷ rest i)

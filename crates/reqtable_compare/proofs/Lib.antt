@@ -19,3 +19,4 @@ pub mod Covered
 pub mod Meant
 pub mod Outside
 pub mod Opening
+pub mod Bounded

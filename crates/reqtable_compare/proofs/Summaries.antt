@@ -1,12 +1,13 @@
 -- The summaries of a table's cases are those of its lines.
 use Rattle.std.proofs.Common.{◌≡◌, ◌∙◌, ◌||◌, ℕ, Bool, true, false, cond, List, [], ◌∷◌, map, filter}
-use Rattle.std.proofs.Common.{refl, sym, ap, subst, arith}
+use Rattle.std.proofs.Common.{refl, sym, ap, subst, arith, Option}
 use Rattle.std.specs.List.{list_any, AllZip, AllByRecursion}
 use Rattle.std.specs.List.Sorted.{IsStrictlySortedBy}
 use Rattle.std.specs.Ordering.{nat_cmp}
 use Rattle.std.specs.Cmp.Lexicographic.{slice_cmp}
 use Rattle.std.specs.Str.{bytes_eq}
-use Rattle.version_ranges.specs.Point.{BelowAll}
+use Rattle.version_ranges.specs.Point.{Point, BelowAll}
+use Rattle.pep440_version.specs.Record.{VersionRecord}
 use Rattle.pep508_diagram.specs.Question.{Valuation}
 use Rattle.pep508_tree.specs.Tree.{Tree, always}
 use Rattle.pep508_tree.specs.Meaning.{NodeRecord}
@@ -19,7 +20,8 @@ use Rattle.reqtable_requirements.specs.declared.requirements.Line.{Line}
 use Rattle.reqtable_cases.specs.Lines.{marked, asked_by}
 use Rattle.reqtable_cases.specs.Usable.{IsRangeOf}
 use Rattle.reqtable_table.specs.Cases.{IsCaseOfLines, AreCasesOf}
-use Rattle.reqtable_table.specs.Kept.{KeptCase}
+use Rattle.reqtable_table.specs.Kept.{KeptLine, KeptCase}
+use Rattle.reqtable_table.specs.Numbered.{asks_at}
 use Rattle.reqtable_compare.specs.Numbered.{extras_at}
 use Rattle.reqtable_compare.specs.Summed.{SummaryRecord, some_asks, IsOfSet, AreSummaries}
 use Rattle.reqtable_compare.specs.Totals.{some_numbers, IsSummed, no_lines}
@@ -56,10 +58,16 @@ some_same : (rs : List LineRecord) → some_numbers (map (λ r. r.number) rs) �
 some_same [] = refl
 some_same (r ∷ rs) = refl
 
-of_set : (lines : List Line) (name : List ℕ) (said : List LineRecord) (s : SummaryRecord) (case : KeptCase)
-    (set : Marks × Tree) → AllByRecursion (HasExtras lines) said → AreComparable said → IsSummed lines s case →
-    IsCaseOfLines (lines_of name said) case set → IsOfSet (lines_of name said) s set
-of_set lines name said s case set extras comparable sum of =
+-- the range that a table makes of a case is that of what the case's lines require
+abbrev pub AreRanged : List KeptLine → List LineRecord → Type 0
+AreRanged kept lines = (case : KeptCase) (set : Marks × Tree) (range : Option (List (Point VersionRecord))) →
+    IsCaseOfLines lines case set → IsRangeOf (asks_at case.numbers kept) range → IsRangeOf (asked_by set.0 lines) range
+
+of_set : (lines : List Line) (kept : List KeptLine) (name : List ℕ) (said : List LineRecord) (s : SummaryRecord)
+    (case : KeptCase) (set : Marks × Tree) → AllByRecursion (HasExtras lines) said → AreComparable said →
+    AreRanged kept (lines_of name said) → IsSummed lines kept s case → IsCaseOfLines (lines_of name said) case set →
+    IsOfSet (lines_of name said) s set
+of_set lines table_lines name said s case set extras comparable ranged sum of =
     let own = marked set.0 (lines_of name said) in
     let own_extras = marked_all (HasExtras lines) set.0 (lines_of name said)
     (kept (HasExtras lines) (λ line. is_of name line.front) said extras) in
@@ -71,24 +79,25 @@ of_set lines name said s case set extras comparable sum of =
             ∙ ap (λ ns. list_any (list_any (bytes_eq e)) (map (extras_at lines) ns)) of.numbers
             ∙ any_extras lines own e own_extras;
         usable = case_usable set.0 name said comparable;
-        range = λ there. subst (IsRangeOf (asked_by set.0 (lines_of name said))) (sym sum.range) of.range;
+        range = λ there. ranged case set s.range of sum.range;
         prerelease = sum.prerelease ∙ of.prerelease;
       };
       tree = sum.tree ∙ of.tree;
     }
 
-each_set : (lines : List Line) (name : List ℕ) (said : List LineRecord) (summaries : List SummaryRecord)
-    (cases : List KeptCase) (sets : List (Marks × Tree)) → AllByRecursion (HasExtras lines) said →
-    AreComparable said → AllZip (IsSummed lines) summaries cases →
+each_set : (lines : List Line) (own : List KeptLine) (name : List ℕ) (said : List LineRecord)
+    (summaries : List SummaryRecord) (cases : List KeptCase) (sets : List (Marks × Tree)) →
+    AllByRecursion (HasExtras lines) said → AreComparable said → AreRanged own (lines_of name said) →
+    AllZip (IsSummed lines own) summaries cases →
     AllZip (IsCaseOfLines (lines_of name said)) cases sets → AllZip (IsOfSet (lines_of name said)) summaries sets
-each_set lines name said [] [] [] extras comparable sums of = tt
-each_set lines name said [] [] (set ∷ sets) extras comparable sums of = absurd of
-each_set lines name said [] (case ∷ cases) sets extras comparable sums of = absurd sums
-each_set lines name said (s ∷ summaries) [] sets extras comparable sums of = absurd sums
-each_set lines name said (s ∷ summaries) (case ∷ cases) [] extras comparable sums of = absurd of
-each_set lines name said (s ∷ summaries) (case ∷ cases) (set ∷ sets) extras comparable sums of = (
-  of_set lines name said s case set extras comparable sums.0 of.0,
-  each_set lines name said summaries cases sets extras comparable sums.1 of.1,
+each_set lines own name said [] [] [] extras comparable ranged sums of = tt
+each_set lines own name said [] [] (set ∷ sets) extras comparable ranged sums of = absurd of
+each_set lines own name said [] (case ∷ cases) sets extras comparable ranged sums of = absurd sums
+each_set lines own name said (s ∷ summaries) [] sets extras comparable ranged sums of = absurd sums
+each_set lines own name said (s ∷ summaries) (case ∷ cases) [] extras comparable ranged sums of = absurd of
+each_set lines own name said (s ∷ summaries) (case ∷ cases) (set ∷ sets) extras comparable ranged sums of = (
+  of_set lines own name said s case set extras comparable ranged sums.0 of.0,
+  each_set lines own name said summaries cases sets extras comparable ranged sums.1 of.1,
 )
 
 anywhere : Valuation
@@ -132,12 +141,13 @@ no_summaries nodes lines summaries empty is =
     subst (λ l. AreSummaries nodes l summaries) (sym empty)
     (subst (AreSummaries nodes []) (sym is) (nothing_summed nodes))
 
-pub some_summaries : (nodes : List NodeRecord) (lines : List Line) (name : List ℕ) (said : List LineRecord)
-    (summaries : List SummaryRecord) (cases : List KeptCase) → AllByRecursion (HasExtras lines) said →
-    AreComparable said → AllZip (IsSummed lines) summaries cases → AreCasesOf nodes (lines_of name said) cases →
+pub some_summaries : (nodes : List NodeRecord) (lines : List Line) (own : List KeptLine) (name : List ℕ)
+    (said : List LineRecord) (summaries : List SummaryRecord) (cases : List KeptCase) →
+    AllByRecursion (HasExtras lines) said → AreComparable said → AreRanged own (lines_of name said) →
+    AllZip (IsSummed lines own) summaries cases → AreCasesOf nodes (lines_of name said) cases →
     AreSummaries nodes (lines_of name said) summaries
-some_summaries nodes lines name said summaries cases extras comparable sums of = record {
+some_summaries nodes lines own name said summaries cases extras comparable ranged sums of = record {
   sets = of.sets;
   are = of.are;
-  each = each_set lines name said summaries cases of.sets extras comparable sums of.each;
+  each = each_set lines own name said summaries cases of.sets extras comparable ranged sums of.each;
 }

@@ -7,7 +7,7 @@ use Rattle.pep508_tree.specs.Disjoint.{AreDisjoint}
 use Rattle.pep508_cases.specs.Cases.{Marks, Marking, IsCase, marks_of}
 use Rattle.reqtable_requirements.specs.declared.requirements.Line.{Line}
 use Rattle.reqtable_table.specs.Cases.{IsCaseOf, HasItsCases, cases_under}
-use Rattle.reqtable_table.specs.Kept.{KeptLine, KeptCase, KeptPackage}
+use Rattle.reqtable_table.specs.Kept.{KeptLine, KeptCase, KeptPackage, kept_under}
 use Rattle.reqtable_compare.specs.Summed.{SummaryRecord}
 use Rattle.reqtable_compare.specs.Totals.{IsSummed, AreSummed, no_lines}
 use Rattle.reqtable_compare.specs.Pairs.{AreOfTrees}
@@ -17,33 +17,34 @@ use Rattle.reqtable_compare.specs.declared.sides.SameError.{SameError}
 use Rattle.reqtable_compare.specs.Differences.{Listed, Place, IsFirstPlace, AnswersPlace, ComparesTables}
 use Rattle.reqtable_compare.proofs.Packages.{summed_under}
 
-made_each : (nodes : List NodeRecord) (marking : Marking) (lines : List Line) (kept : List KeptLine)
+made_each : (nodes : List NodeRecord) (marking : Marking) (lines : List Line) (own kept : List KeptLine)
     (summaries : List SummaryRecord) (cases : List KeptCase) (sets : List (Marks × Tree)) →
-    AllZip (IsSummed lines) summaries cases → AllZip (IsCaseOf kept) cases sets →
+    AllZip (IsSummed lines own) summaries cases → AllZip (IsCaseOf kept) cases sets →
     AllByRecursion (IsCase marking nodes) sets → AreOfTrees nodes summaries
-made_each nodes marking lines kept [] cases sets sums of made = tt
-made_each nodes marking lines kept (s ∷ summaries) [] sets sums of made = absurd sums
-made_each nodes marking lines kept (s ∷ summaries) (case ∷ cases) [] sums of made = absurd of
-made_each nodes marking lines kept (s ∷ summaries) (case ∷ cases) (set ∷ sets) sums of made = (
+made_each nodes marking lines own kept [] cases sets sums of made = tt
+made_each nodes marking lines own kept (s ∷ summaries) [] sets sums of made = absurd sums
+made_each nodes marking lines own kept (s ∷ summaries) (case ∷ cases) [] sums of made = absurd of
+made_each nodes marking lines own kept (s ∷ summaries) (case ∷ cases) (set ∷ sets) sums of made = (
   subst (IsTree nodes) (sym (sums.0.tree ∙ of.0.tree)) made.0.made,
-  made_each nodes marking lines kept summaries cases sets sums.1 of.1 made.1,
+  made_each nodes marking lines own kept summaries cases sets sums.1 of.1 made.1,
 )
 
 nothing_made : (nodes : List NodeRecord) (summaries : List SummaryRecord) → summaries ≡ no_lines ∷ [] →
     AreOfTrees nodes summaries
 nothing_made nodes summaries is = subst (AreOfTrees nodes) (sym is) (omega arith, tt)
 
-of_package : (nodes : List NodeRecord) (lines : List Line) (kept : KeptPackage) (summaries : List SummaryRecord) →
-    HasItsCases nodes kept → AllZip (IsSummed lines) summaries kept.cases → AreOfTrees nodes summaries
-of_package nodes lines kept summaries has sums =
-    made_each nodes (marks_of nodes (map (λ line. line.marker) kept.lines)) lines kept.lines summaries kept.cases has.sets
+of_package : (nodes : List NodeRecord) (lines : List Line) (own : List KeptLine) (kept : KeptPackage) (summaries : List SummaryRecord) →
+    HasItsCases nodes kept → AllZip (IsSummed lines own) summaries kept.cases → AreOfTrees nodes summaries
+of_package nodes lines own kept summaries has sums =
+    made_each nodes (marks_of nodes (map (λ line. line.marker) kept.lines)) lines own kept.lines summaries kept.cases has.sets
     sums has.each has.are.each
 
 pub trees_under : (nodes : List NodeRecord) (lines : List Line) (name : List ℕ) (table : List KeptPackage)
     (summaries : List SummaryRecord) → AllByRecursion (HasItsCases nodes) table →
-    AreSummed lines (cases_under name table) summaries → AreOfTrees nodes summaries
-trees_under nodes lines =
-    summed_under (AreOfTrees nodes) nodes lines (nothing_made nodes) (of_package nodes lines)
+    AreSummed lines (kept_under name table) (cases_under name table) summaries → AreOfTrees nodes summaries
+trees_under nodes lines name table =
+    summed_under (AreOfTrees nodes) nodes lines (kept_under name table) (nothing_made nodes)
+    (of_package nodes lines (kept_under name table)) name table
 
 -- ---- and so has the place at which two lists differ
 

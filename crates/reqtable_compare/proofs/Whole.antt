@@ -22,26 +22,28 @@ use Rattle.reqtable_requirements.specs.declared.requirements.Line.{Line}
 use Rattle.reqtable_cases.specs.Lines.{line_marks}
 use Rattle.reqtable_cases.specs.Requires.{RequireAlike, RequireTheSame, IsFirstDifference, asked_of}
 use Rattle.reqtable_table.specs.Cases.{AreCasesOf, cases_under, Builds}
-use Rattle.reqtable_table.specs.Kept.{KeptCase, KeptPackage}
-use Rattle.reqtable_table_laws.proofs.CasesOfLines.{cases_of_lines, none_of_lines}
+use Rattle.reqtable_table.specs.Kept.{KeptCase, KeptPackage, kept_under}
+use Rattle.reqtable_table_laws.proofs.CasesOfLines.{cases_of_lines, none_of_lines, range_of_case}
+use Rattle.reqtable_table_laws.proofs.CasesOfLines.{filter_rises}
 use Rattle.reqtable_compare.specs.declared.sides.Same.{Same}
 use Rattle.reqtable_compare.specs.declared.sides.Same.TheVariants.{Yes, No}
 use Rattle.reqtable_compare.specs.declared.sides.SameError.{SameError}
 use Rattle.reqtable_compare.specs.declared.sides.SameError.TheVariants as errors
 use Rattle.reqtable_compare.specs.declared.sides.Side.TheVariants.{Left, Right}
-use Rattle.reqtable_compare.specs.Compared.{NoneTooMany, MayCompare, Compares, TablesSide}
+use Rattle.reqtable_compare.specs.Compared.{NoneTooMany, MayCompare, Compares, ComparesBy, PassesInAll, TablesSide}
 use Rattle.reqtable_compare.specs.Differences.{Listed, Sums, AgreeOn, IsFirstPlace, Place, IsBoth}
 use Rattle.reqtable_compare.specs.Differences.{ComparesTables, listed}
 use Rattle.reqtable_compare.specs.Refusals.{line_refusal}
 use Rattle.reqtable_packages.specs.Packages.{said_among}
 use Rattle.reqtable_compare.specs.Summed.{SummaryRecord, AreSummaries}
 use Rattle.reqtable_compare.specs.Totals.{AreSummed}
-use Rattle.reqtable_compare.proofs.ByNumber.{Rise, HasExtras, extras_said}
+use Rattle.reqtable_compare.proofs.ByNumber.{Rise, HasExtras, extras_said, numbers_alike}
 use Rattle.reqtable_compare.proofs.Comparable.{AreComparable}
-use Rattle.reqtable_compare.proofs.Summaries.{no_summaries, some_summaries}
+use Rattle.reqtable_compare.proofs.Summaries.{AreRanged, no_summaries, some_summaries}
 use Rattle.reqtable_compare.proofs.Paired.{all_pass, differs}
-use Rattle.reqtable_packages.proofs.Among.{among_lines, none_too_many, first_too_many}
+use Rattle.reqtable_packages.proofs.Among.{among_lines, none_too_many, first_too_many, too_many_in_all}
 use Rattle.reqtable_packages.proofs.Standing.{unnamed}
+use Rattle.reqtable_compare.proofs.Bounded.{by_bounds}
 use Rattle.reqtable_compare.proofs.Outside.{AreOutside}
 
 -- ---- a list with its table, and what its lines say
@@ -52,6 +54,8 @@ pub record SideOf (nodes : List NodeRecord) (names : List (List ℕ)) (side : Li
   pub comparable : AreComparable said
   pub some : (q : List ℕ) (cases : List KeptCase) → list_any (bytes_eq q) names ≡ true →
       cases_under q side.table ≡ Some cases → AreCasesOf nodes (lines_of q said) cases
+  pub ranged : (q : List ℕ) → list_any (bytes_eq q) names ≡ true →
+      AreRanged (kept_under q side.table) (lines_of q said)
   pub none : (q : List ℕ) → list_any (bytes_eq q) names ≡ true → cases_under q side.table ≡ None →
       lines_of q said ≡ []
 
@@ -73,6 +77,10 @@ side_of vars old made new limit names lines table said stand rise comparable bui
   some = λ q cases there is. kept_cases made new (lines_of q said) cases keeps
       (subst (λ l. AreCasesOf made l cases) (among_lines names q said there)
       (cases_of_lines made table (said_among names said) q cases built.0 built.1 is));
+  ranged = λ q there. subst (AreRanged (kept_under q table)) (among_lines names q said there)
+      (λ case set range. range_of_case made table (said_among names said) q case set range built.0
+      (filter_rises (λ line. list_any (bytes_eq line.front.name) names) said
+      (subst (IsStrictlySortedBy nat_cmp) (numbers_alike vars old lines said stand) rise)));
   none = λ q there is. sym (among_lines names q said there)
       ∙ unnamed (λ line. is_of q line.front) (said_among names said)
       (none_of_lines made table (said_among names said) q built.0 is);
@@ -80,12 +88,14 @@ side_of vars old made new limit names lines table said stand rise comparable bui
 
 sums_by : (nodes : List NodeRecord) (names : List (List ℕ)) (side : Listed) (said : List LineRecord) (q : List ℕ)
     (summaries : List SummaryRecord) (cases : Option (List KeptCase)) → SideOf nodes names side said →
-    list_any (bytes_eq q) names ≡ true → cases_under q side.table ≡ cases → AreSummed side.lines cases summaries →
+    list_any (bytes_eq q) names ≡ true → cases_under q side.table ≡ cases →
+    AreSummed side.lines (kept_under q side.table) cases summaries →
     AreSummaries nodes (lines_of q said) summaries
 sums_by nodes names side said q summaries None of there is sums =
     no_summaries nodes (lines_of q said) summaries (of.none q there is) sums
 sums_by nodes names side said q summaries (Some cases) of there is sums =
-    some_summaries nodes side.lines q said summaries cases of.extras of.comparable sums (of.some q cases there is)
+    some_summaries nodes side.lines (kept_under q side.table) q said summaries cases of.extras of.comparable
+    (of.ranged q there) sums (of.some q cases there is)
 
 sums_of : (nodes : List NodeRecord) (names : List (List ℕ)) (side : Listed) (said : List LineRecord) (q : List ℕ)
     (summaries : List SummaryRecord) → SideOf nodes names side said → list_any (bytes_eq q) names ≡ true →
@@ -202,24 +212,44 @@ module _ (nodes : List NodeRecord) (limit : ℕ) (names : List (List ℕ)) (left
 
 -- ---- a table that is refused
 
-module _ (limit : ℕ) (names : List (List ℕ)) (said others : List LineRecord)
+module _ (limit : ℕ) (in_all : Option ℕ) (names : List (List ℕ)) (said others : List LineRecord)
     (outside : AreOutside limit names said others) where
+  left_in_all : (bound : Option ℕ) (new : List NodeRecord) → line_refusal said others ≡ None →
+      PassesInAll limit bound (said_among names said) →
+      ComparesBy limit bound new said others (Err (errors.TooManyCasesInAll Left))
+  left_in_all None new none h = absurd h
+  left_in_all (Some most) new none h = (none, too_many_in_all limit names said outside.few most h)
+
+  right_in_all : (bound : Option ℕ) (new : List NodeRecord) → line_refusal said others ≡ None →
+      NoneTooMany limit (said_among names said) → PassesInAll limit bound (said_among names others) →
+      ComparesBy limit bound new said others (Err (errors.TooManyCasesInAll Right))
+  right_in_all None new none few h = absurd h
+  right_in_all (Some most) new none few h =
+      (none, none_too_many limit names said outside.few few, too_many_in_all limit names others outside.few_others most h)
+
   pub left_refused : (nodes new : List NodeRecord) (error : SameError) → line_refusal said others ≡ None →
-      TablesSide Left limit nodes (said_among names said) (Err error) → Compares limit new said others (Err error)
+      TablesSide Left limit in_all nodes (said_among names said) (Err error) →
+      ComparesBy limit in_all new said others (Err error)
   left_refused nodes new (errors.Line side number cause) none h = absurd h
   left_refused nodes new (errors.TooManyCases Left name) none h =
+      by_bounds limit in_all new said others (Err (errors.TooManyCases Left name))
       (none, first_too_many limit names said outside.few name h.1)
   left_refused nodes new (errors.TooManyCases Right name) none h = let wrong = h.0 in absurd (cc)
-  left_refused nodes new errors.Memory none h = tt
+  left_refused nodes new (errors.TooManyCasesInAll Left) none h = left_in_all in_all new none h.1
+  left_refused nodes new (errors.TooManyCasesInAll Right) none h = let wrong = h.0 in absurd (cc)
+  left_refused nodes new errors.Memory none h = by_bounds limit in_all new said others (Err errors.Memory) tt
 
   pub right_refused : (nodes new : List NodeRecord) (error : SameError) → line_refusal said others ≡ None →
-      NoneTooMany limit (said_among names said) → TablesSide Right limit nodes (said_among names others) (Err error) →
-      Compares limit new said others (Err error)
+      NoneTooMany limit (said_among names said) → TablesSide Right limit in_all nodes (said_among names others) (Err error) →
+      ComparesBy limit in_all new said others (Err error)
   right_refused nodes new (errors.Line side number cause) none few h = absurd h
   right_refused nodes new (errors.TooManyCases Left name) none few h = let wrong = h.0 in absurd (cc)
-  right_refused nodes new (errors.TooManyCases Right name) none few h = (
-    none,
-    none_too_many limit names said outside.few few,
-    first_too_many limit names others outside.few_others name h.1,
-  )
-  right_refused nodes new errors.Memory none few h = tt
+  right_refused nodes new (errors.TooManyCases Right name) none few h =
+      by_bounds limit in_all new said others (Err (errors.TooManyCases Right name)) (
+        none,
+        none_too_many limit names said outside.few few,
+        first_too_many limit names others outside.few_others name h.1,
+      )
+  right_refused nodes new (errors.TooManyCasesInAll Left) none few h = let wrong = h.0 in absurd (cc)
+  right_refused nodes new (errors.TooManyCasesInAll Right) none few h = right_in_all in_all new none few h.1
+  right_refused nodes new errors.Memory none few h = by_bounds limit in_all new said others (Err errors.Memory) tt

@@ -7,7 +7,7 @@ use Rattle.pep508_tree.specs.Tree.{Tree}
 use Rattle.pep508_tree.specs.Meaning.{NodeRecord, IsTree, holds}
 use Rattle.reqtable_requirements.specs.declared.requirements.Line.{Line}
 use Rattle.reqtable_table.specs.Cases.{cases_under}
-use Rattle.reqtable_table.specs.Kept.{KeptPackage}
+use Rattle.reqtable_table.specs.Kept.{KeptPackage, kept_under}
 use Rattle.reqtable_compare.specs.declared.comparing.Place.{Place as Found}
 use Rattle.reqtable_compare.specs.declared.sides.Same.{Same}
 use Rattle.reqtable_compare.specs.declared.sides.Same.TheVariants.{Yes, No}
@@ -24,7 +24,8 @@ pub record Listed : Type 0 where
 
 -- the summaries of what a list requires of a package
 abbrev pub Sums : Listed → List ℕ → List SummaryRecord → Type 0
-Sums side name summaries = AreSummed side.lines (cases_under name side.table) summaries
+Sums side name summaries =
+    AreSummed side.lines (kept_under name side.table) (cases_under name side.table) summaries
 
 -- both lists require the same of a package
 pub record AgreeOn (nodes : List NodeRecord) (left right : Listed) (name : List ℕ) : Type 0 where

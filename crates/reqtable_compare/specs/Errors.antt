@@ -6,6 +6,7 @@ use Rattle.reqtable_compare.specs.declared.sides.LineCause.TheVariants.{Url, Exa
 use Rattle.reqtable_compare.specs.declared.sides.LineCause.TheVariants.{PostAfterBound, NumberAtEnd}
 use Rattle.reqtable_compare.specs.declared.sides.SameError.{SameError}
 use Rattle.reqtable_compare.specs.declared.sides.SameError.TheVariants.{Line, TooManyCases, Memory}
+use Rattle.reqtable_compare.specs.declared.sides.SameError.TheVariants.{TooManyCasesInAll}
 use Rattle.reqtable_compare.specs.declared.sides.Side.{Side}
 use Rattle.reqtable_compare.specs.declared.sides.Side.TheVariants.{Left, Right}
 
@@ -24,4 +25,5 @@ same_error_text (Line side number cause) =
     side_text side ++ codes " list: line " ++ decimal number ++ codes ": " ++ cause_text cause
 same_error_text (TooManyCases side name) =
     side_text side ++ codes " list: " ++ name ++ codes ": too many cases"
+same_error_text (TooManyCasesInAll side) = side_text side ++ codes " list: too many cases in all"
 same_error_text Memory = codes "out of memory"

@@ -1,5 +1,4 @@
 -- Summaries as records.
-use Rattle.std.specs.Option.{option_map}
 use Rattle.reqtable_compare.specs.declared.summary.Summary.{Summary}
 use Rattle.reqtable_compare.specs.Summed.{SummaryRecord}
 
@@ -7,7 +6,7 @@ abbrev pub summary_record : Summary → SummaryRecord
 summary_record s = record {
   some = s.has_lines;
   extras = s.extras.items;
-  range = option_map (λ r. r.now) s.range;
+  range = s.range;
   prerelease = s.prerelease;
   tree = s.tree;
 }

@@ -17,8 +17,9 @@ ghost use Rattle.pep508_tree.specs.Disjoint.{AreDisjoint};
 ghost use Rattle.reqtable_requirements.specs.Asks.{AreOfNodes};
 ghost use Rattle.reqtable_requirements.specs.LineReading.{LineRecord};
 ghost use Rattle.reqtable_requirements.specs.Requirements.{StandsFor};
+ghost use Rattle.reqtable_table.specs.Building.{BuildsBy};
 ghost use Rattle.reqtable_table.specs.Cases.{HasItsCases};
-ghost use Rattle.reqtable_compare.specs.Compared.{Compares, TablesSide};
+ghost use Rattle.reqtable_compare.specs.Compared.{Compares, ComparesWithin, ComparesBy, TablesSide};
 ghost use Rattle.reqtable_compare.specs.Differences.{FindsPlace, place_seen, listed, AnswersPlace};
 ghost use Rattle.reqtable_compare.specs.Differences.{ComparesTables};
 ghost use Rattle.reqtable_compare.specs.RefusedLines.{lines_refusal};
@@ -33,7 +34,7 @@ use crate::summing::summaries;
 use pep508_name::PackageName;
 use pep508_tree::Interner;
 use pep508_tree_laws::{a_tree_holds_somewhere, constants_are_named};
-use reqtable_packages::packages_table;
+use reqtable_packages::{packages_table, packages_table_within};
 use reqtable_requirements::{Line, Requirements};
 use reqtable_table::{Table, TableError};
 use std::alloc::{AllocError, Global};
@@ -44,6 +45,13 @@ use std::alloc::{AllocError, Global};
 struct Place {
     name: PackageName,
     meeting: Meeting,
+}
+
+/// How many cases each package of a list may have, and, if that is bounded, all packages of a list together.
+#[derive(Clone, Copy)]
+struct Bounds {
+    limit: u64,
+    in_all: Option<u64>,
 }
 
 /// Whether two lists require the same of each package under every valuation of markers, and so in every
@@ -72,7 +80,8 @@ struct Place {
 /// counted in either list. A package with k and m cases needs k comparisons of what two cases require if each
 /// of its cases is in both lists and requires the same there. If many are not, it needs one for each pair of
 /// cases that hold together, and the time of one diagram of the cases of both lists; if few are not, or if
-/// more than 16 * (k + m) pairs hold together, at most k * m comparisons.
+/// more than 16 * (k + m) pairs hold together, at most k * m comparisons. The ranges of its cases in both
+/// lists are made anew, and kept while it is compared.
 ///
 /// # Errors
 ///
@@ -95,6 +104,62 @@ pub fn same<'a>(
         Compares limit interner.new.nodes said others result }
     ensures keeps { Extends interner.old.nodes interner.new.nodes }
 {
+    let bounds = Bounds {
+        limit,
+        in_all: None,
+    };
+    compare(alloc, left, right, interner, bounds)
+}
+
+/// Whether two lists require the same, as `same` finds it, with no more than `in_all` cases built of either
+/// list. Only the packages whose cases `same` builds are counted, those of each list by themselves, and their
+/// tables are those of `Table::build_within`.
+///
+/// # Errors
+///
+/// `SameError::Line` as for `same`. `SameError::TooManyCases` for the first package that has more cases than
+/// `limit` in one of the lists. `SameError::TooManyCasesInAll` only where the packages of the list up to some
+/// package have more than `in_all` cases together, and none before it has more than `limit`; the left list is
+/// refused first. `SameError::Memory` when memory runs out.
+pub fn same_within<'a>(
+    alloc: Global,
+    left: &'a Requirements,
+    right: &'a Requirements,
+    interner: &mut Interner,
+    limit: u64,
+    in_all: u64,
+) -> Result<Same, SameError>
+    requires left { AreOfNodes interner.old.nodes left.now }
+    requires right { AreOfNodes interner.old.nodes right.now }
+    ensures compared { (vars : Variables) (said others : List LineRecord) →
+        AllZip (StandsFor vars interner.old.nodes) left.now said →
+        AllZip (StandsFor vars interner.old.nodes) right.now others →
+        ComparesWithin limit in_all interner.new.nodes said others result }
+    ensures keeps { Extends interner.old.nodes interner.new.nodes }
+{
+    let bounds = Bounds {
+        limit,
+        in_all: Some(in_all),
+    };
+    compare(alloc, left, right, interner, bounds)
+}
+
+/// Whether two lists require the same, with no more cases than there may be.
+fn compare(
+    alloc: Global,
+    left: &Requirements,
+    right: &Requirements,
+    interner: &mut Interner,
+    bounds: Bounds,
+) -> Result<Same, SameError>
+    requires left { AreOfNodes interner.old.nodes left.now }
+    requires right { AreOfNodes interner.old.nodes right.now }
+    ensures compared { (vars : Variables) (said others : List LineRecord) →
+        AllZip (StandsFor vars interner.old.nodes) left.now said →
+        AllZip (StandsFor vars interner.old.nodes) right.now others →
+        ComparesBy bounds.limit bounds.in_all interner.new.nodes said others result }
+    ensures keeps { Extends interner.old.nodes interner.new.nodes }
+{
     if let Some(refused) = first_refusal(alloc, left.lines(), right.lines())? {
         return Err(SameError::Line {
             side: refused.side,
@@ -102,8 +167,8 @@ pub fn same<'a>(
             cause: refused.cause,
         });
     }
-    let names = open_packages(alloc, left.lines(), right.lines(), limit)?;
-    compared_on(alloc, left, right, &names, interner, limit)
+    let names = open_packages(alloc, left.lines(), right.lines(), bounds.limit)?;
+    compared_on(alloc, left, right, &names, interner, bounds)
 }
 
 /// Compares two lists by the packages that aren't settled by equal lines.
@@ -113,22 +178,22 @@ fn compared_on(
     right: &Requirements,
     names: &[&PackageName],
     interner: &mut Interner,
-    limit: u64,
+    bounds: Bounds,
 ) -> Result<Same, SameError>
     requires left { AreOfNodes interner.old.nodes left.now }
     requires right { AreOfNodes interner.old.nodes right.now }
     requires none { lines_refusal Side.Left left.now (lines_refusal Side.Right right.now None) ≡ None }
-    requires others { AreOpen limit left.now right.now (map (λ name. name.now) names.now) }
+    requires others { AreOpen bounds.limit left.now right.now (map (λ name. name.now) names.now) }
     ensures compared { (vars : Variables) (said others : List LineRecord) →
         AllZip (StandsFor vars interner.old.nodes) left.now said →
         AllZip (StandsFor vars interner.old.nodes) right.now others →
-        Compares limit interner.new.nodes said others result }
+        ComparesBy bounds.limit bounds.in_all interner.new.nodes said others result }
     ensures keeps { Extends interner.old.nodes interner.new.nodes }
 {
     left.are_read();
     right.are_read();
-    let left_table = side_table(alloc, Side::Left, left, names, interner, limit)?;
-    let right_table = side_table(alloc, Side::Right, right, names, interner, limit)?;
+    let left_table = side_table(alloc, Side::Left, left, names, interner, bounds)?;
+    let right_table = side_table(alloc, Side::Right, right, names, interner, bounds)?;
     compared(
         alloc,
         left,
@@ -147,20 +212,47 @@ fn side_table(
     requirements: &Requirements,
     names: &[&PackageName],
     interner: &mut Interner,
-    limit: u64,
+    bounds: Bounds,
 ) -> Result<Table, SameError>
     requires rising { IsStrictlySortedBy (slice_cmp nat_cmp) (map (λ name. name.now) names.now) }
     requires trees { AreOfNodes interner.old.nodes requirements.now }
     ensures made { (vars : Variables) (said : List LineRecord) →
         AllZip (StandsFor vars interner.old.nodes) requirements.now said →
-        TablesSide side limit interner.new.nodes (said_among (map (λ name. name.now) names.now) said) result }
+        TablesSide side bounds.limit bounds.in_all interner.new.nodes
+        (said_among (map (λ name. name.now) names.now) said) result }
     ensures cases { IfOk result (AllByRecursion (HasItsCases interner.new.nodes)) }
     ensures keeps { Extends interner.old.nodes interner.new.nodes }
 {
-    match packages_table(alloc, requirements, names, interner, limit) {
+    match table_of(alloc, requirements, names, interner, bounds) {
         Ok(table) => Ok(table),
         Err(TableError::TooManyCases { package }) => Err(SameError::TooManyCases { side, package }),
+        Err(TableError::TooManyCasesInAll) => Err(SameError::TooManyCasesInAll { side }),
         Err(TableError::Memory) => Err(SameError::Memory),
+    }
+}
+
+/// The table of some packages, with no more cases than there may be.
+fn table_of(
+    alloc: Global,
+    requirements: &Requirements,
+    names: &[&PackageName],
+    interner: &mut Interner,
+    bounds: Bounds,
+) -> Result<Table, TableError>
+    requires rising { IsStrictlySortedBy (slice_cmp nat_cmp) (map (λ name. name.now) names.now) }
+    requires trees { AreOfNodes interner.old.nodes requirements.now }
+    ensures built { (vars : Variables) (said : List LineRecord) →
+        AllZip (StandsFor vars interner.old.nodes) requirements.now said →
+        BuildsBy bounds.limit bounds.in_all interner.new.nodes
+        (said_among (map (λ name. name.now) names.now) said) result }
+    ensures cases { IfOk result (AllByRecursion (HasItsCases interner.new.nodes)) }
+    ensures keeps { Extends interner.old.nodes interner.new.nodes }
+{
+    match bounds.in_all {
+        None => packages_table(alloc, requirements, names, interner, bounds.limit),
+        Some(in_all) => {
+            packages_table_within(alloc, requirements, names, interner, bounds.limit, in_all)
+        }
     }
 }
 

@@ -11,5 +11,5 @@ mod sides;
 mod summary;
 mod summing;
 
-pub use comparing::same;
+pub use comparing::{same, same_within};
 pub use sides::{LineCause, Same, SameError, Side};

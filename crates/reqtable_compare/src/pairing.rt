@@ -50,8 +50,8 @@ pub(crate) struct Meeting {
 pub(crate) fn first_trees(
     alloc: Global,
     interner: &Interner,
-    left: &[Summary<'_>],
-    right: &[Summary<'_>],
+    left: &[Summary],
+    right: &[Summary],
 ) -> Result<Option<Meeting>, AllocError>
     requires left { AreOfTrees interner.now.nodes (map summary_record left.now) }
     requires right { AreOfTrees interner.now.nodes (map summary_record right.now) }
@@ -69,7 +69,7 @@ pub(crate) fn first_trees(
 }
 
 /// The index of each case by its tree, or nothing if there are only a few cases.
-fn places_of(alloc: Global, right: &[Summary<'_>]) -> Result<Places, AllocError> {
+fn places_of(alloc: Global, right: &[Summary]) -> Result<Places, AllocError> {
     let mut places = HashMap::new(alloc);
     if right.len() <= FEW {
         return Ok(places);
@@ -81,7 +81,7 @@ fn places_of(alloc: Global, right: &[Summary<'_>]) -> Result<Places, AllocError>
 }
 
 /// Whether the cases that have no partner need many comparisons.
-fn are_many(left: &[Summary<'_>], right: &[Summary<'_>], places: &Places) -> bool {
+fn are_many(left: &[Summary], right: &[Summary], places: &Places) -> bool {
     let mut others: usize = 0;
     for one in left {
         if !has_partner(places, one, right) {
@@ -92,7 +92,7 @@ fn are_many(left: &[Summary<'_>], right: &[Summary<'_>], places: &Places) -> boo
 }
 
 /// Whether a case of the other side has the same tree and requires the same.
-fn has_partner(places: &Places, one: &Summary<'_>, right: &[Summary<'_>]) -> bool
+fn has_partner(places: &Places, one: &Summary, right: &[Summary]) -> bool
     ensures { (nodes : List NodeRecord) → AreApart nodes (map summary_record right.now) → IsTrue result →
         PassesAll nodes (map summary_record right.now) (summary_record one.now) }
 {
@@ -103,7 +103,7 @@ fn has_partner(places: &Places, one: &Summary<'_>, right: &[Summary<'_>]) -> boo
 }
 
 /// Whether both cases have the same tree and require the same.
-fn is_partner(one: &Summary<'_>, other: &Summary<'_>) -> bool
+fn is_partner(one: &Summary, other: &Summary) -> bool
     ensures { IsTrue result → ArePartners (summary_record one.now) (summary_record other.now) }
 {
     one.tree == other.tree && one.is_alike(other)
@@ -113,8 +113,8 @@ fn is_partner(one: &Summary<'_>, other: &Summary<'_>) -> bool
 fn listed_pairs(
     alloc: Global,
     interner: &Interner,
-    left: &[Summary<'_>],
-    right: &[Summary<'_>],
+    left: &[Summary],
+    right: &[Summary],
 ) -> Result<Option<Vec<(usize, usize)>>, AllocError>
     requires left { AreOfTrees interner.now.nodes (map summary_record left.now) }
     requires right { AreOfTrees interner.now.nodes (map summary_record right.now) }
@@ -134,7 +134,7 @@ fn listed_pairs(
 }
 
 /// The trees of some cases.
-fn trees_of(alloc: Global, cases: &[Summary<'_>]) -> Result<Vec<MarkerTree>, AllocError>
+fn trees_of(alloc: Global, cases: &[Summary]) -> Result<Vec<MarkerTree>, AllocError>
     ensures { IfOk result (λ trees. trees.items ≡ case_trees (map summary_record cases.now)) }
 {
     let mut trees = Vec::with_capacity(alloc, cases.len())?;
@@ -148,8 +148,8 @@ fn trees_of(alloc: Global, cases: &[Summary<'_>]) -> Result<Vec<MarkerTree>, All
 fn first_listed(
     alloc: Global,
     interner: &Interner,
-    left: &[Summary<'_>],
-    right: &[Summary<'_>],
+    left: &[Summary],
+    right: &[Summary],
     pairs: &[(usize, usize)],
 ) -> Result<Option<Meeting>, AllocError>
     requires left { AreOfTrees interner.now.nodes (map summary_record left.now) }
@@ -176,8 +176,8 @@ fn first_listed(
 fn first_of_all(
     alloc: Global,
     interner: &Interner,
-    left: &[Summary<'_>],
-    right: &[Summary<'_>],
+    left: &[Summary],
+    right: &[Summary],
     places: &Places,
 ) -> Result<Option<Meeting>, AllocError>
     requires left { AreOfTrees interner.now.nodes (map summary_record left.now) }
@@ -201,8 +201,8 @@ fn first_of_all(
 fn first_other(
     alloc: Global,
     interner: &Interner,
-    one: &Summary<'_>,
-    right: &[Summary<'_>],
+    one: &Summary,
+    right: &[Summary],
     places: &Places,
 ) -> Result<Option<MarkerTree>, AllocError>
     requires one { IsTree interner.now.nodes one.now.tree }
@@ -226,8 +226,8 @@ fn first_other(
 fn passes(
     alloc: Global,
     interner: &Interner,
-    one: &Summary<'_>,
-    other: &Summary<'_>,
+    one: &Summary,
+    other: &Summary,
 ) -> Result<bool, AllocError>
     requires one { IsTree interner.now.nodes one.now.tree }
     requires other { IsTree interner.now.nodes other.now.tree }

@@ -83,6 +83,10 @@ pub enum SameError {
         side: Side,
         package: PackageName,
     },
+    /// All packages of one list together have more cases than their limit, those of the left list first.
+    TooManyCasesInAll {
+        side: Side,
+    },
     /// Memory ran out.
     Memory,
 }
@@ -128,6 +132,10 @@ impl fmt::Display for SameError {
             SameError::TooManyCases { side, package } => {
                 let side = side_name(*side);
                 write!(f, "{side} list: {package}: too many cases")
+            }
+            SameError::TooManyCasesInAll { side } => {
+                let side = side_name(*side);
+                write!(f, "{side} list: too many cases in all")
             }
             SameError::Memory => write!(f, "out of memory"),
         }

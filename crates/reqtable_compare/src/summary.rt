@@ -1,7 +1,6 @@
 //! A case of a package, by what it requires.
 
 ghost use Rattle.std.specs.Prelude.{◌↔◌, IsTrue};
-ghost use Rattle.std.specs.Option.{option_map};
 ghost use Rattle.reqtable_compare.specs.Summed.{Alike, SameRange};
 ghost use Rattle.reqtable_compare.specs.Seen.{summary_record};
 
@@ -14,17 +13,17 @@ use version_ranges::Ranges;
 /// that they share, whether one of their specifiers names a pre-release or developmental release, and the
 /// tree that holds exactly where the case applies.
 #[derive(Drop)]
-pub(crate) struct Summary<'a> {
+pub(crate) struct Summary {
     pub(crate) has_lines: bool,
     pub(crate) extras: Vec<ExtraName>,
-    pub(crate) range: Option<&'a Ranges<Version>>,
+    pub(crate) range: Option<Ranges<Version>>,
     pub(crate) prerelease: bool,
     pub(crate) tree: MarkerTree,
 }
 
-impl<'a> Summary<'a> {
+impl Summary {
     /// Whether both cases require nothing, or both the same.
-    pub(crate) fn is_alike(&self, other: &Summary<'a>) -> bool
+    pub(crate) fn is_alike(&self, other: &Summary) -> bool
         ensures { IsTrue result ↔ Alike (summary_record self.now) (summary_record other.now) }
     {
         if !self.has_lines {
@@ -36,12 +35,12 @@ impl<'a> Summary<'a> {
         if self.prerelease != other.prerelease {
             return false;
         }
-        self.extras == other.extras && is_same_range(self.range, other.range)
+        self.extras == other.extras && is_same_range(&self.range, &other.range)
     }
 }
 
-fn is_same_range(a: Option<&Ranges<Version>>, b: Option<&Ranges<Version>>) -> bool
-    ensures { IsTrue result ↔ SameRange (option_map (λ r. r.now) a.entry) (option_map (λ r. r.now) b.entry) }
+fn is_same_range(a: &Option<Ranges<Version>>, b: &Option<Ranges<Version>>) -> bool
+    ensures { IsTrue result ↔ SameRange a.now b.now }
 {
     match a {
         Some(ours) => match b {

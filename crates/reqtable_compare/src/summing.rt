@@ -6,6 +6,7 @@ ghost use Rattle.std.specs.List.Sorted.{IsStrictlySortedBy};
 ghost use Rattle.std.specs.Ordering.{nat_cmp};
 ghost use Rattle.reqtable_table.specs.Casing.{case_record};
 ghost use Rattle.reqtable_table.specs.Cases.{cases_under};
+ghost use Rattle.reqtable_table.specs.Kept.{kept_under};
 ghost use Rattle.reqtable_compare.specs.Numbered.{extras_at};
 ghost use Rattle.reqtable_compare.specs.Seen.{summary_record};
 ghost use Rattle.reqtable_compare.specs.Totals.{IsSummed, AreSummed, some_numbers};
@@ -21,26 +22,28 @@ use std::alloc::{AllocError, Global};
 /// What each case of a package in a table requires, by the lines of its list. A package that isn't in the
 /// list has one case, which is without lines and always holds.
 ///
-/// A case of n lines needs O(n log m) steps to find them among m lines, and O(n log n) comparisons of extras.
-pub(crate) fn summaries<'a>(
+/// A case of n lines needs O(n log m) steps to find them among m lines, O(n log n) comparisons of extras, and
+/// the time and memory of its range (`Table::range`).
+pub(crate) fn summaries(
     alloc: Global,
     lines: &[Line],
-    table: &'a Table,
+    table: &Table,
     name: &PackageName,
-) -> Result<Vec<Summary<'a>>, AllocError>
+) -> Result<Vec<Summary>, AllocError>
     requires rising { IsStrictlySortedBy nat_cmp (map (λ line. line.number) lines.now) }
     ensures { IfOk result (λ found.
-        AreSummed lines.now (cases_under name.now table.now) (map summary_record found.items)) }
+        AreSummed lines.now (kept_under name.now table.now) (cases_under name.now table.now)
+        (map summary_record found.items)) }
 {
     match table.cases(name) {
-        Some(cases) => each_summary(alloc, lines, cases),
+        Some(cases) => each_summary(alloc, lines, table, name, cases),
         None => nothing(alloc),
     }
 }
 
 /// The single case, without lines, of a package that a list doesn't name.
-fn nothing<'a>(alloc: Global) -> Result<Vec<Summary<'a>>, AllocError>
-    ensures { IfOk result (λ found. AreSummed [] None (map summary_record found.items)) }
+fn nothing(alloc: Global) -> Result<Vec<Summary>, AllocError>
+    ensures { IfOk result (λ found. AreSummed [] [] None (map summary_record found.items)) }
 {
     let mut found = Vec::with_capacity(alloc, 1)?;
     found.push(Summary {
@@ -53,32 +56,43 @@ fn nothing<'a>(alloc: Global) -> Result<Vec<Summary<'a>>, AllocError>
     Ok(found)
 }
 
-fn each_summary<'a>(
+fn each_summary(
     alloc: Global,
     lines: &[Line],
-    cases: &'a [Case],
-) -> Result<Vec<Summary<'a>>, AllocError>
+    table: &Table,
+    name: &PackageName,
+    cases: &[Case],
+) -> Result<Vec<Summary>, AllocError>
     requires rising { IsStrictlySortedBy nat_cmp (map (λ line. line.number) lines.now) }
     ensures { IfOk result (λ found.
-        AllZip (IsSummed lines.now) (map summary_record found.items) (map case_record cases.now)) }
+        AllZip (IsSummed lines.now (kept_under name.now table.now)) (map summary_record found.items)
+        (map case_record cases.now)) }
 {
     let mut found = Vec::with_capacity(alloc, cases.len())?;
     for case in cases {
-        found.push(summary(alloc, lines, case)?)?;
+        found.push(summary(alloc, lines, table, name, case)?)?;
     }
     Ok(found)
 }
 
-fn summary<'a>(alloc: Global, lines: &[Line], case: &'a Case) -> Result<Summary<'a>, AllocError>
+fn summary(
+    alloc: Global,
+    lines: &[Line],
+    table: &Table,
+    name: &PackageName,
+    case: &Case,
+) -> Result<Summary, AllocError>
     requires rising { IsStrictlySortedBy nat_cmp (map (λ line. line.number) lines.now) }
-    ensures { IfOk result (λ found. IsSummed lines.now (summary_record found) (case_record case.now)) }
+    ensures { IfOk result (λ found.
+        IsSummed lines.now (kept_under name.now table.now) (summary_record found) (case_record case.now)) }
 {
     let lists = lists_of(alloc, lines, &case.lines)?;
     let extras = united_extras(alloc, &lists)?;
+    let range = table.range(alloc, name, case)?;
     Ok(Summary {
         has_lines: has_some(&case.lines),
         extras,
-        range: case.range.as_ref(),
+        range,
         prerelease: case.pre,
         tree: case.tree,
     })

@@ -11,10 +11,6 @@ use Rattle.std.specs.Str.{bytes_eq}
 use Rattle.std.proofs.lemmas.Cmp.{nat_list_cmp_total}
 use Rattle.std.proofs.lemmas.List.{length-map, append-nil}
 use Rattle.std.proofs.lemmas.Map.Text.{is_eq-slice_cmp}
-use Rattle.version_ranges.specs.Point.{Point}
-use Rattle.version_ranges.specs.Held.{holds_at}
-use Rattle.pep440_version.specs.Record.{VersionRecord}
-use Rattle.pep440_version.specs.Order.{version_cmp}
 use Rattle.pep508_diagram.specs.Question.{Valuation}
 use Rattle.pep508_tree.specs.Tree.{Tree}
 use Rattle.pep508_tree.specs.Meaning.{NodeRecord}
@@ -28,21 +24,22 @@ use Rattle.reqtable_requirements.specs.LineReading.{LineRecord}
 use Rattle.reqtable_requirements.specs.Requirements.{StandsFor}
 use Rattle.reqtable_requirements.specs.declared.requirements.Line.{Line}
 use Rattle.reqtable_cases.specs.Lines.{line_marks, marked, numbers_of, asked_by}
-use Rattle.reqtable_cases.specs.Usable.{IsRangeOf}
 use Rattle.reqtable_cases.specs.Conflicts.{IsConflict, told_of, AreConflicts}
 use Rattle.reqtable_table.specs.declared.table.TableError.{TableError}
-use Rattle.reqtable_table.specs.declared.table.TableError.TheVariants.{TooManyCases, Memory}
-use Rattle.reqtable_table.specs.Cases.{Builds, HasItsCases, IsCaseOfLines, AreCasesOf, cases_under}
-use Rattle.reqtable_table.specs.Kept.{KeptCase, KeptPackage, KeepsAll}
-use Rattle.reqtable_table_laws.proofs.CasesOfLines.{cases_of_lines, none_of_lines}
-use Rattle.reqtable_conflicts.specs.Contradictions.{ConflictRecord, FindsConflicts, HasNoPoint, StandByName}
+use Rattle.reqtable_table.specs.declared.table.TableError.TheVariants.{TooManyCases, TooManyCasesInAll, Memory}
+use Rattle.reqtable_table.specs.Cases.{Builds, HasItsCases, IsCaseOfLines, AreCasesOf, cases_under, BuildsWithin}
+use Rattle.reqtable_table.specs.Kept.{KeptLine, KeptCase, KeptPackage, Keeps, KeepsAll, kept_under}
+use Rattle.reqtable_table.specs.Numbered.{asks_at}
+use Rattle.reqtable_table_laws.proofs.CasesOfLines.{cases_of_lines, none_of_lines, NumbersRise, filter_rises}
+use Rattle.reqtable_table_laws.proofs.CasesOfLines.{asks_of_case, same_usable, same_points}
+use Rattle.reqtable_conflicts.specs.Contradictions.{ConflictRecord, FindsConflicts, HasNoPoint, StandByName, FindsWithin}
 use Rattle.reqtable_conflicts.specs.Contradictions.{told_under}
-use Rattle.reqtable_conflicts.specs.Picking.{Picks, PicksOf, FoundFor, named}
+use Rattle.reqtable_conflicts.specs.Picking.{Picks, PicksOf, PicksUnder, FoundFor, named}
 use Rattle.reqtable_conflicts.specs.Agreeing.{AreDoubtful}
 use Rattle.reqtable_packages.specs.Packages.{said_among}
+use Rattle.reqtable_conflicts.proofs.Numbered.{numbers_alike}
 use Rattle.reqtable_conflicts.proofs.Agreed.{empty_has_none, no_conflict, few_others}
-use Rattle.reqtable_packages.proofs.Among.{among_lines, none_too_many, first_too_many}
-use Rattle.reqtable_conflicts.proofs.Picked.{in_or}
+use Rattle.reqtable_packages.proofs.Among.{among_lines, none_too_many, first_too_many, too_many_in_all}
 use Rattle.reqtable_packages.proofs.Standing.{unnamed}
 
 -- ---- a case without any point is a conflict
@@ -51,37 +48,31 @@ as_many : (set : Marks) (lines : List LineRecord) → length (asked_by set lines
 as_many set lines =
     length-map (marked set lines) (λ line. line.front) ∙ sym (length-map (marked set lines) (λ line. line.number))
 
-conflict_by : (lines : List LineRecord) (case : KeptCase) (set : Marks × Tree)
-    (range : Option (List (Point VersionRecord))) → case.range ≡ range → IsCaseOfLines lines case set →
-    IsRangeOf (asked_by set.0 lines) range → HasNoPoint case → IsConflict (asked_by set.0 lines)
-conflict_by lines case set None is one of none =
-    let wrong : None ≡ Some none.set = sym is ∙ none.ranged in absurd (cc)
-conflict_by lines case set (Some points) is one of none =
-    let same : Some points ≡ Some none.set = sym is ∙ none.ranged in
+to_conflict : (nodes : List NodeRecord) (kept : List KeptLine) (lines : List LineRecord) (case : KeptCase)
+    (set : Marks × Tree) → AllZip (Keeps nodes) kept lines → NumbersRise lines → IsCaseOfLines lines case set →
+    HasNoPoint kept case → IsConflict (asked_by set.0 lines)
+to_conflict nodes kept lines case set keeps rise one none =
+    let alike = asks_of_case nodes kept lines keeps rise case set one in
+    let asks = asks_at case.numbers kept in
+    let others = asked_by set.0 lines in
     record {
       some = subst (λ n. 0 < n) (ap length one.numbers ∙ sym (as_many set.0 lines)) none.some;
-      usable = of.0;
-      none = λ p. sym (of.1 p) ∙ ap (λ s. holds_at version_cmp s p) (ap (in_or points) same) ∙ none.none p;
+      usable = sym (same_usable asks others alike) ∙ none.usable;
+      none = λ p. sym (same_points asks others alike p) ∙ none.none p;
     }
 
-no_point_by : (lines : List LineRecord) (case : KeptCase) (set : Marks × Tree)
-    (range : Option (List (Point VersionRecord))) → case.range ≡ range → IsCaseOfLines lines case set →
-    IsRangeOf (asked_by set.0 lines) range → IsConflict (asked_by set.0 lines) → HasNoPoint case
-no_point_by lines case set None is one of conflict = absurd (true≢false (sym conflict.usable ∙ of))
-no_point_by lines case set (Some points) is one of conflict = record {
-  some = subst (λ n. 0 < n) (as_many set.0 lines ∙ sym (ap length one.numbers)) conflict.some;
-  set = points;
-  ranged = is;
-  none = λ p. of.1 p ∙ conflict.none p;
-}
-
-to_conflict : (lines : List LineRecord) (case : KeptCase) (set : Marks × Tree) → IsCaseOfLines lines case set →
-    HasNoPoint case → IsConflict (asked_by set.0 lines)
-to_conflict lines case set one = conflict_by lines case set case.range refl one one.range
-
-to_no_point : (lines : List LineRecord) (case : KeptCase) (set : Marks × Tree) → IsCaseOfLines lines case set →
-    IsConflict (asked_by set.0 lines) → HasNoPoint case
-to_no_point lines case set one = no_point_by lines case set case.range refl one one.range
+to_no_point : (nodes : List NodeRecord) (kept : List KeptLine) (lines : List LineRecord) (case : KeptCase)
+    (set : Marks × Tree) → AllZip (Keeps nodes) kept lines → NumbersRise lines → IsCaseOfLines lines case set →
+    IsConflict (asked_by set.0 lines) → HasNoPoint kept case
+to_no_point nodes kept lines case set keeps rise one conflict =
+    let alike = asks_of_case nodes kept lines keeps rise case set one in
+    let asks = asks_at case.numbers kept in
+    let others = asked_by set.0 lines in
+    record {
+      some = subst (λ n. 0 < n) (as_many set.0 lines ∙ sym (ap length one.numbers)) conflict.some;
+      usable = same_usable asks others alike ∙ conflict.usable;
+      none = λ p. same_points asks others alike p ∙ conflict.none p;
+    }
 
 -- ---- and those picked are all conflicts
 
@@ -103,11 +94,11 @@ or_other : (b c : Bool) → (b || c) ≡ true → (b ≡ true → ⊥) → c ≡
 or_other true c h never = absurd (never refl)
 or_other false c h never = h
 
-picked_kept : (lines : List LineRecord) (cases : List KeptCase) (sets : List (Marks × Tree))
-    (picked : List (List ℕ × Bool)) → AllZip (IsCaseOfLines lines) cases sets → Picks cases picked →
-    Kept lines sets picked
+picked_kept : (nodes : List NodeRecord) (own : List KeptLine) (lines : List LineRecord) → AllZip (Keeps nodes) own lines →
+    NumbersRise lines → (cases : List KeptCase) (sets : List (Marks × Tree)) (picked : List (List ℕ × Bool)) →
+    AllZip (IsCaseOfLines lines) cases sets → Picks own cases picked → Kept lines sets picked
 unfolding IsStrictlySortedBy
-picked_kept lines [] [] picked h picks = record {
+picked_kept nodes own lines keeps rise [] [] picked h picks = record {
   kept = [];
   within = λ P all. tt;
   rising = λ rise. tt;
@@ -115,21 +106,21 @@ picked_kept lines [] [] picked h picks = record {
   all = λ m conflict there. there;
   told = picks;
 }
-picked_kept lines [] (set ∷ sets) picked h picks = absurd h
-picked_kept lines (case ∷ cases) [] picked h picks = absurd h
-picked_kept lines (case ∷ cases) (set ∷ sets) picked h (inl (none, (rest, is, below))) =
-    let k = picked_kept lines cases sets rest h.1 below in
+picked_kept nodes own lines keeps rise [] (set ∷ sets) picked h picks = absurd h
+picked_kept nodes own lines keeps rise (case ∷ cases) [] picked h picks = absurd h
+picked_kept nodes own lines keeps rise (case ∷ cases) (set ∷ sets) picked h (inl (none, (rest, is, below))) =
+    let k = picked_kept nodes own lines keeps rise cases sets rest h.1 below in
     record {
       kept = set.0 ∷ k.kept;
       within = λ P all. (all.0, k.within P all.1);
       rising = λ rise. (k.within (λ m. marks_cmp set.0 m ≡ Less) rise.0, k.rising rise.1);
-      conflicts = (to_conflict lines case set h.0 none, k.conflicts);
+      conflicts = (to_conflict nodes own lines case set keeps rise h.0 none, k.conflicts);
       all = λ m conflict there. or_there (same_marks m set.0) (list_any (same_marks m) (sets_of sets))
           (list_any (same_marks m) k.kept) there (k.all m conflict);
       told = is ∙ (λ i. (h.0.numbers i, h.0.prerelease i) ∷ k.told i);
     }
-picked_kept lines (case ∷ cases) (set ∷ sets) picked h (inr (some, below)) =
-    let k = picked_kept lines cases sets picked h.1 below in
+picked_kept nodes own lines keeps rise (case ∷ cases) (set ∷ sets) picked h (inr (some, below)) =
+    let k = picked_kept nodes own lines keeps rise cases sets picked h.1 below in
     record {
       kept = k.kept;
       within = λ P all. k.within P all.1;
@@ -137,7 +128,7 @@ picked_kept lines (case ∷ cases) (set ∷ sets) picked h (inr (some, below)) =
       conflicts = k.conflicts;
       all = λ m conflict there. k.all m conflict
           (or_other (same_marks m set.0) (list_any (same_marks m) (sets_of sets)) there
-          (λ same. some (to_no_point lines case set h.0
+          (λ same. some (to_no_point nodes own lines case set keeps rise h.0
           (subst (λ s. IsConflict (asked_by s lines)) (marks_is m set.0 same) conflict))));
       told = k.told;
     }
@@ -148,10 +139,11 @@ realised_each : (lines : List LineRecord) (nodes : List NodeRecord) (sets : List
 realised_each lines nodes [] h = tt
 realised_each lines nodes (set ∷ sets) h = (h.0.realised, realised_each lines nodes sets h.1)
 
-pub picked_are_conflicts : (lines : List LineRecord) (nodes : List NodeRecord) (cases : List KeptCase)
-    (picked : List (List ℕ × Bool)) → AreCasesOf nodes lines cases → Picks cases picked → AreConflicts lines picked
-picked_are_conflicts lines nodes cases picked h picks =
-    let k = picked_kept lines cases h.sets picked h.each picks in
+pub picked_are_conflicts : (nodes : List NodeRecord) (own : List KeptLine) (lines : List LineRecord) →
+    AllZip (Keeps nodes) own lines → NumbersRise lines → (cases : List KeptCase) (picked : List (List ℕ × Bool)) →
+    AreCasesOf nodes lines cases → Picks own cases picked → AreConflicts lines picked
+picked_are_conflicts nodes own lines keeps rise cases picked h picks =
+    let k = picked_kept nodes own lines keeps rise cases h.sets picked h.each picks in
     record {
       sets = k.kept;
       rising = k.rising h.are.rising;
@@ -219,7 +211,7 @@ not_later q n (y ∷ names) same h =
 
 abbrev Under : List KeptPackage → List (List ℕ) → List ConflictRecord → List ℕ → Type 0
 Under table names found q =
-    ((list_any (bytes_eq q) names ≡ true) × PicksOf (cases_under q table) (told_under q found))
+    ((list_any (bytes_eq q) names ≡ true) × PicksUnder table q (told_under q found))
     ⊎ ((list_any (bytes_eq q) names ≡ false) × (told_under q found ≡ []))
 
 absent : (table : List KeptPackage) (names : List (List ℕ)) (found : List ConflictRecord) (q : List ℕ) →
@@ -229,7 +221,7 @@ absent table names found q (inr h) none = h.1
 
 under_by : (table : List KeptPackage) (n : List ℕ) (names : List (List ℕ)) (found rest : List ConflictRecord)
     (picked : List (List ℕ × Bool)) (q : List ℕ) (b : Bool) → bytes_eq q n ≡ b →
-    AllByRecursion (λ y. slice_cmp nat_cmp n y ≡ Less) names → PicksOf (cases_under n table) picked →
+    AllByRecursion (λ y. slice_cmp nat_cmp n y ≡ Less) names → PicksUnder table n picked →
     found ≡ map (named n) picked ++ rest → Under table names rest q → Under table (n ∷ names) found q
 under_by table n names found rest picked q true e later picks is below =
     let same : q ≡ n = same_bytes q n e in
@@ -238,15 +230,15 @@ under_by table n names found rest picked q true e later picks is below =
     ap (told_under q) is ∙ own_under q n picked rest e ∙ ap (λ l. picked ++ l) none ∙ append-nil picked in
     inl (
       ap (λ b. b || list_any (bytes_eq q) names) e,
-      subst (λ l. PicksOf (cases_under q table) l) (sym told)
-          (subst (λ m. PicksOf (cases_under m table) picked) (sym same) picks),
+      subst (λ l. PicksUnder table q l) (sym told)
+          (subst (λ m. PicksUnder table m picked) (sym same) picks),
     )
 under_by table n names found rest picked q false e later picks is (inl below) =
     let told : told_under q found ≡ told_under q rest =
     ap (told_under q) is ∙ other_under q n picked rest e in
     inl (
       ap (λ b. b || list_any (bytes_eq q) names) e ∙ below.0,
-      subst (λ l. PicksOf (cases_under q table) l) (sym told) below.1,
+      subst (λ l. PicksUnder table q l) (sym told) below.1,
     )
 under_by table n names found rest picked q false e later picks is (inr below) =
     inr (
@@ -311,37 +303,39 @@ found_stand table (n ∷ names) found rise (picked, rest, picks, is, below) =
 module _ (nodes : List NodeRecord) (table : List KeptPackage) (said : List LineRecord) (names : List (List ℕ)) where
   conflicts_by : (q : List ℕ) (picked : List (List ℕ × Bool)) (cases : Option (List KeptCase)) (lines : List LineRecord) →
       KeepsAll nodes table lines → AllByRecursion (HasItsCases nodes) table → cases_under q table ≡ cases →
-      PicksOf cases picked → AreConflicts (lines_of q lines) picked
-  conflicts_by q picked None lines keeps has is picks =
+      NumbersRise lines → PicksOf (kept_under q table) cases picked → AreConflicts (lines_of q lines) picked
+  conflicts_by q picked None lines keeps has is rise picks =
       never_conflict (lines_of q lines) picked
       (λ v. empty_has_none (lines_of q lines) v
       (unnamed (λ line. is_of q line.front) lines (none_of_lines nodes table lines q keeps is))) picks
-  conflicts_by q picked (Some cases) lines keeps has is picks =
-      picked_are_conflicts (lines_of q lines) nodes cases picked
+  conflicts_by q picked (Some cases) lines keeps has is rise picks =
+      picked_are_conflicts nodes (kept_under q table) (lines_of q lines) (keeps.each q)
+      (filter_rises (λ line. is_of q line.front) lines rise) cases picked
       (cases_of_lines nodes table lines q cases keeps has is) picks
 
   conflicts_under : (found : List ConflictRecord) (q : List ℕ) → KeepsAll nodes table (said_among names said) →
-      AllByRecursion (HasItsCases nodes) table →
+      AllByRecursion (HasItsCases nodes) table → NumbersRise (said_among names said) →
       (list_any (bytes_eq q) names ≡ false → (v : Valuation) →
       IsConflict (asked_by (line_marks (lines_of q said) v) (lines_of q said)) → ⊥) →
       Under table names found q → AreConflicts (lines_of q said) (told_under q found)
-  conflicts_under found q keeps has others (inl there) =
+  conflicts_under found q keeps has rise others (inl there) =
       subst (λ lines. AreConflicts lines (told_under q found)) (among_lines names q said there.0)
-      (conflicts_by q (told_under q found) (cases_under q table) (said_among names said) keeps has refl there.1)
-  conflicts_under found q keeps has others (inr none) =
+      (conflicts_by q (told_under q found) (cases_under q table) (said_among names said) keeps has refl rise there.1)
+  conflicts_under found q keeps has rise others (inr none) =
       never_conflict (lines_of q said) (told_under q found) (others none.0) none.1
 
 -- ---- what is found
 
 pub all_found : (vars : Variables) (old nodes : List NodeRecord) (limit : ℕ) (lines : List Line)
     (said : List LineRecord) (table : List KeptPackage) (names : List (List ℕ)) (found : List ConflictRecord) →
-    AllZip (StandsFor vars old) lines said → AreDoubtful limit lines names →
-    Builds limit nodes (said_among names said) (Ok table) → FoundFor table names found →
+    AllZip (StandsFor vars old) lines said → IsStrictlySortedBy nat_cmp (map (λ (line : Line). line.number) lines) →
+    AreDoubtful limit lines names → Builds limit nodes (said_among names said) (Ok table) → FoundFor table names found →
     FindsConflicts (λ conflicts. conflicts) limit said (Ok found)
-all_found vars old nodes limit lines said table names found stand are built h = (
+all_found vars old nodes limit lines said table names found stand rise are built h = (
   none_too_many limit names said (few_others vars old limit lines said names stand are) built.2,
   found_stand table names found are.rising h,
   λ q. conflicts_under nodes table said names found q built.0 built.1
+      (filter_rises (λ line. list_any (bytes_eq line.front.name) names) said (subst (IsStrictlySortedBy nat_cmp) (numbers_alike vars old lines said stand) rise))
       (no_conflict vars old limit lines said names stand are q) (found_under table names found are.rising h q),
 )
 
@@ -351,4 +345,15 @@ pub refused_too : {X : Type 0} (view : X → List ConflictRecord) (vars : Variab
     Builds limit nodes (said_among names said) (Err error) → FindsConflicts view limit said (Err error)
 refused_too view vars old nodes limit lines said names (TooManyCases name) stand are first =
     first_too_many limit names said (few_others vars old limit lines said names stand are) name first
+refused_too view vars old nodes limit lines said names TooManyCasesInAll stand are h = absurd h
 refused_too view vars old nodes limit lines said names Memory stand are first = tt
+
+pub refused_within : {X : Type 0} (view : X → List ConflictRecord) (vars : Variables) (old nodes : List NodeRecord)
+    (limit in_all : ℕ) (lines : List Line) (said : List LineRecord) (names : List (List ℕ)) (error : TableError) →
+    AllZip (StandsFor vars old) lines said → AreDoubtful limit lines names →
+    BuildsWithin limit in_all nodes (said_among names said) (Err error) → FindsWithin view limit in_all said (Err error)
+refused_within view vars old nodes limit in_all lines said names (TooManyCases name) stand are first =
+    first_too_many limit names said (few_others vars old limit lines said names stand are) name first.0
+refused_within view vars old nodes limit in_all lines said names TooManyCasesInAll stand are h =
+    too_many_in_all limit names said (few_others vars old limit lines said names stand are) in_all h
+refused_within view vars old nodes limit in_all lines said names Memory stand are h = tt

@@ -2,78 +2,81 @@
 use Rattle.std.proofs.Common.{◌≡◌, ◌∙◌, ◌<◌, ◌+◌, ◌↔◌, ℕ, Bool, false, IsTrue, List, [], ◌∷◌, ◌++◌, map}
 use Rattle.std.proofs.Common.{length}
 use Rattle.std.proofs.Common.{take, get_or, Bor}
-use Rattle.std.proofs.Common.{Option, Some, None, refl, sym, ap, subst, inl, inr}
+use Rattle.std.proofs.Common.{Some, None, refl, sym, ap, subst, inl, inr, arith, true≢false}
 use Rattle.std.proofs.lemmas.List.{map-append, append_assoc, append-nil, take_more}
 use Rattle.version_ranges.specs.Point.{Point}
 use Rattle.version_ranges.specs.Held.{holds_at}
 use Rattle.pep440_version.specs.Record.{VersionRecord}
 use Rattle.pep440_version.specs.Order.{version_cmp}
-use Rattle.reqtable_table.specs.Cases.{cases_under}
+use Rattle.reqtable_cases.specs.Usable.{IsRangeOf}
 use Rattle.reqtable_table.specs.Casing.{case_record}
 use Rattle.reqtable_table.specs.declared.table.Case.{Case}
-use Rattle.reqtable_table.specs.Kept.{KeptCase, KeptPackage}
+use Rattle.reqtable_table.specs.Kept.{KeptLine, KeptCase, KeptPackage}
+use Rattle.reqtable_table.specs.Numbered.{asks_at}
 use Rattle.reqtable_conflicts.specs.Contradictions.{ConflictRecord, HasNoPoint}
-use Rattle.reqtable_conflicts.specs.Picking.{Picks, PicksOf, AddsPicked, FoundFor, told, named}
+use Rattle.reqtable_conflicts.specs.Picking.{Picks, PicksUnder, AddsPicked, FoundFor, told, named}
 
 abbrev Set : Type 0
 Set = List (Point VersionRecord)
 
-abbrev pub in_or : Set → Option Set → Set
-in_or other None = other
-in_or other (Some set) = set
-
-pub has_none : (case : KeptCase) (set : Set) (r : Bool) → 0 < length case.numbers → case.range ≡ Some set →
-    (IsTrue r ↔ ((p : Point VersionRecord) → holds_at version_cmp set p ≡ false)) →
-    IsTrue r ↔ HasNoPoint case
-has_none case set r some is tells = (
-  λ t. record { some = some; set = set; ranged = is; none = tells.0 t },
-  λ h. tells.1
-      (λ p. subst (λ s. holds_at version_cmp s p ≡ false) (ap (in_or set) (sym h.ranged ∙ is)) (h.none p)),
+pub has_none : (lines : List KeptLine) (case : KeptCase) (set : Set) (r : Bool) → 0 < length case.numbers →
+    IsRangeOf (asks_at case.numbers lines) (Some set) →
+    (IsTrue r ↔ ((p : Point VersionRecord) → holds_at version_cmp set p ≡ false)) → IsTrue r ↔ HasNoPoint lines case
+has_none lines case set r some is tells = (
+  λ t. record { some = some; usable = is.0; none = λ p. sym (is.1 p) ∙ tells.0 t p },
+  λ h. tells.1 (λ p. is.1 p ∙ h.none p),
 )
 
-pub picked_more : (cases : List KeptCase) (picked : List (List ℕ × Bool)) (case : KeptCase) → Picks cases picked →
-    HasNoPoint case → Picks (cases ++ case ∷ []) (picked ++ told case ∷ [])
-picked_more [] picked case h none = inl (none, ([], ap (λ l. l ++ told case ∷ []) h, refl))
-picked_more (c ∷ cases) picked case (inl (one, (rest, is, below))) none =
+pub none_usable : (lines : List KeptLine) (case : KeptCase) → IsRangeOf (asks_at case.numbers lines) None →
+    HasNoPoint lines case → ⊥
+none_usable lines case is h = true≢false (sym h.usable ∙ is)
+
+pub none_there : (lines : List KeptLine) (case : KeptCase) → length case.numbers ≡ 0 → HasNoPoint lines case → ⊥
+none_there lines case none h = let some = h.some in absurd (omega arith)
+
+pub picked_more : (lines : List KeptLine) (cases : List KeptCase) (picked : List (List ℕ × Bool)) (case : KeptCase) → Picks lines cases picked →
+    HasNoPoint lines case → Picks lines (cases ++ case ∷ []) (picked ++ told case ∷ [])
+picked_more lines [] picked case h none = inl (none, ([], ap (λ l. l ++ told case ∷ []) h, refl))
+picked_more lines (c ∷ cases) picked case (inl (one, (rest, is, below))) none =
     inl (
       one,
       (
         rest ++ told case ∷ [],
         ap (λ l. l ++ told case ∷ []) is,
-        picked_more cases rest case below none,
+        picked_more lines cases rest case below none,
       ),
     )
-picked_more (c ∷ cases) picked case (inr (never, below)) none = inr (never, picked_more cases picked case below none)
+picked_more lines (c ∷ cases) picked case (inr (never, below)) none = inr (never, picked_more lines cases picked case below none)
 
-pub passed_more : (cases : List KeptCase) (picked : List (List ℕ × Bool)) (case : KeptCase) → Picks cases picked →
-    (HasNoPoint case → ⊥) → Picks (cases ++ case ∷ []) picked
-passed_more [] picked case h some = inr (some, h)
-passed_more (c ∷ cases) picked case (inl (one, (rest, is, below))) some =
-    inl (one, (rest, is, passed_more cases rest case below some))
-passed_more (c ∷ cases) picked case (inr (never, below)) some = inr (never, passed_more cases picked case below some)
+pub passed_more : (lines : List KeptLine) (cases : List KeptCase) (picked : List (List ℕ × Bool)) (case : KeptCase) → Picks lines cases picked →
+    (HasNoPoint lines case → ⊥) → Picks lines (cases ++ case ∷ []) picked
+passed_more lines [] picked case h some = inr (some, h)
+passed_more lines (c ∷ cases) picked case (inl (one, (rest, is, below))) some =
+    inl (one, (rest, is, passed_more lines cases rest case below some))
+passed_more lines (c ∷ cases) picked case (inr (never, below)) some = inr (never, passed_more lines cases picked case below some)
 
 -- a case that was added, or passed over
-pub added_more : (name : List ℕ) (cases : List KeptCase) (case : KeptCase) (old new more : List ConflictRecord) →
-    AddsPicked name cases old new → HasNoPoint case → more ≡ new ++ named name (told case) ∷ [] →
-    AddsPicked name (cases ++ case ∷ []) old more
-added_more name cases case old new more (picked, picks, is) none grown = (
+pub added_more : (lines : List KeptLine) (name : List ℕ) (cases : List KeptCase) (case : KeptCase) (old new more : List ConflictRecord) →
+    AddsPicked lines name cases old new → HasNoPoint lines case → more ≡ new ++ named name (told case) ∷ [] →
+    AddsPicked lines name (cases ++ case ∷ []) old more
+added_more lines name cases case old new more (picked, picks, is) none grown = (
   picked ++ told case ∷ [],
-  picked_more cases picked case picks none,
+  picked_more lines cases picked case picks none,
   grown
       ∙ ap (λ l. l ++ named name (told case) ∷ []) is
       ∙ append_assoc old (map (named name) picked) (named name (told case) ∷ [])
       ∙ ap (λ l. old ++ l) (sym (map-append (named name) picked (told case ∷ []))),
 )
 
-pub added_same : (name : List ℕ) (cases : List KeptCase) (case : KeptCase) (old new : List ConflictRecord) →
-    AddsPicked name cases old new → (HasNoPoint case → ⊥) → AddsPicked name (cases ++ case ∷ []) old new
-added_same name cases case old new (picked, picks, is) some =
-    (picked, passed_more cases picked case picks some, is)
+pub added_same : (lines : List KeptLine) (name : List ℕ) (cases : List KeptCase) (case : KeptCase) (old new : List ConflictRecord) →
+    AddsPicked lines name cases old new → (HasNoPoint lines case → ⊥) → AddsPicked lines name (cases ++ case ∷ []) old new
+added_same lines name cases case old new (picked, picks, is) some =
+    (picked, passed_more lines cases picked case picks some, is)
 
 -- one package after another
 pub found_more : (table : List KeptPackage) (names : List (List ℕ)) (name : List ℕ)
     (found more : List ConflictRecord) (picked : List (List ℕ × Bool)) → FoundFor table names found →
-    PicksOf (cases_under name table) picked → more ≡ found ++ map (named name) picked →
+    PicksUnder table name picked → more ≡ found ++ map (named name) picked →
     FoundFor table (names ++ name ∷ []) more
 found_more table [] name found more picked h picks grown =
     (picked, [], picks, grown ∙ ap (λ l. l ++ map (named name) picked) h ∙ sym (append-nil _), refl)
@@ -94,24 +97,24 @@ next_case cases i case lt is =
     sym (map-append case_record (take i cases) (case ∷ []))
     ∙ ap (map case_record) (ap (λ c. take i cases ++ c ∷ []) is ∙ sym (take_more cases i case lt))
 
-pub picks_next : (name : List ℕ) (cases : List Case) (i : ℕ) (case : Case) (old new more : List ConflictRecord) →
-    i < length cases → case ≡ get_or cases i case → AddsPicked name (map case_record (take i cases)) old new →
-    HasNoPoint (case_record case) → more ≡ new ++ named name (told (case_record case)) ∷ [] →
-    AddsPicked name (map case_record (take (i + 1) cases)) old more
-picks_next name cases i case old new more lt is h none grown =
-    subst (λ cs. AddsPicked name cs old more) (next_case cases i case lt is)
-    (added_more name (map case_record (take i cases)) (case_record case) old new more h none grown)
+pub picks_next : (lines : List KeptLine) (name : List ℕ) (cases : List Case) (i : ℕ) (case : Case) (old new more : List ConflictRecord) →
+    i < length cases → case ≡ get_or cases i case → AddsPicked lines name (map case_record (take i cases)) old new →
+    HasNoPoint lines (case_record case) → more ≡ new ++ named name (told (case_record case)) ∷ [] →
+    AddsPicked lines name (map case_record (take (i + 1) cases)) old more
+picks_next lines name cases i case old new more lt is h none grown =
+    subst (λ cs. AddsPicked lines name cs old more) (next_case cases i case lt is)
+    (added_more lines name (map case_record (take i cases)) (case_record case) old new more h none grown)
 
-pub passes_next : (name : List ℕ) (cases : List Case) (i : ℕ) (case : Case) (old new : List ConflictRecord) →
-    i < length cases → case ≡ get_or cases i case → AddsPicked name (map case_record (take i cases)) old new →
-    (HasNoPoint (case_record case) → ⊥) → AddsPicked name (map case_record (take (i + 1) cases)) old new
-passes_next name cases i case old new lt is h some =
-    subst (λ cs. AddsPicked name cs old new) (next_case cases i case lt is)
-    (added_same name (map case_record (take i cases)) (case_record case) old new h some)
+pub passes_next : (lines : List KeptLine) (name : List ℕ) (cases : List Case) (i : ℕ) (case : Case) (old new : List ConflictRecord) →
+    i < length cases → case ≡ get_or cases i case → AddsPicked lines name (map case_record (take i cases)) old new →
+    (HasNoPoint lines (case_record case) → ⊥) → AddsPicked lines name (map case_record (take (i + 1) cases)) old new
+passes_next lines name cases i case old new lt is h some =
+    subst (λ cs. AddsPicked lines name cs old new) (next_case cases i case lt is)
+    (added_same lines name (map case_record (take i cases)) (case_record case) old new h some)
 
 pub found_next : (table : List KeptPackage) (names : List (Bor (List ℕ))) (i : ℕ) (name : Bor (List ℕ))
     (found more : List ConflictRecord) (picked : List (List ℕ × Bool)) → i < length names → name ≡ get_or names i name →
-    FoundFor table (map (λ n. n.now) (take i names)) found → PicksOf (cases_under name.now table) picked →
+    FoundFor table (map (λ n. n.now) (take i names)) found → PicksUnder table name.now picked →
     more ≡ found ++ map (named name.now) picked → FoundFor table (map (λ n. n.now) (take (i + 1) names)) more
 found_next table names i name found more picked lt is h picks grown =
     subst (λ ns. FoundFor table ns more)

@@ -13,14 +13,16 @@ ghost use Rattle.reqtable_requirements.specs.Asks.{AreOfNodes};
 ghost use Rattle.reqtable_requirements.specs.LineReading.{LineRecord};
 ghost use Rattle.reqtable_requirements.specs.Requirements.{StandsFor};
 ghost use Rattle.reqtable_table.specs.Casing.{case_record};
-ghost use Rattle.reqtable_conflicts.specs.Contradictions.{conflict_record, FindsConflicts, HasNoPoint};
+ghost use Rattle.reqtable_table.specs.Kept.{kept_under};
+ghost use Rattle.reqtable_conflicts.specs.Contradictions.{conflict_record, FindsConflicts, FindsWithin};
+ghost use Rattle.reqtable_conflicts.specs.Contradictions.{HasNoPoint};
 ghost use Rattle.reqtable_conflicts.specs.Picking.{AddsPicked, FoundFor, told, named};
 
 use crate::doubtful::doubtful_packages;
 use pep440_version::Version;
 use pep508_name::PackageName;
 use pep508_tree::Interner;
-use reqtable_packages::packages_table;
+use reqtable_packages::{packages_table, packages_table_within};
 use reqtable_requirements::Requirements;
 use reqtable_table::{Case, Table, TableError};
 use std::alloc::{AllocError, Global};
@@ -53,7 +55,8 @@ pub struct Conflict {
 /// n lines need O(n log n) comparisons of names, and the intersection of the ranges of each package's lines.
 /// A package all of whose lines have some point in common has no conflict, and its cases are not built, if
 /// its n lines can't have more cases than the limit, 2^n <= limit. The lines of all other packages are
-/// copied, and cost what `Table::build` does.
+/// copied, and cost what `Table::build` does, and the intersection of the ranges of each case's lines, one
+/// of which is kept at a time.
 ///
 /// # Errors
 ///
@@ -73,10 +76,42 @@ pub fn conflicts(
     ensures counts { interner.new.conjunctions
         ≤ interner.old.conjunctions + 2 * (limit * length requirements.now) }
 {
+    requirements.are_read();
     let names = doubtful_packages(alloc, requirements.lines(), limit)?;
     let table = packages_table(alloc, requirements, &names, interner, limit)?;
     let found = conflicts_in(alloc, &table, &names)?;
     Ok(found)
+}
+
+/// The lines of each package that contradict each other, as `conflicts` finds them, with no more than `in_all`
+/// cases built. Only the packages whose cases `conflicts` builds are counted, and their tables are those of
+/// `Table::build_within`.
+///
+/// # Errors
+///
+/// `TableError::TooManyCases` for the first package by name that has more cases than `limit`.
+/// `TableError::TooManyCasesInAll` only where the packages up to some package have more than `in_all` cases
+/// together, and none before it has more than `limit`. `TableError::Memory` when memory runs out.
+pub fn conflicts_within(
+    alloc: Global,
+    requirements: &Requirements,
+    interner: &mut Interner,
+    limit: u64,
+    in_all: u64,
+) -> Result<Vec<Conflict>, TableError>
+    requires trees { AreOfNodes interner.old.nodes requirements.now }
+    ensures found { (vars : Variables) (said : List LineRecord) →
+        AllZip (StandsFor vars interner.old.nodes) requirements.now said →
+        FindsWithin (λ found. map conflict_record found.items) limit in_all said result }
+    ensures keeps { Extends interner.old.nodes interner.new.nodes }
+    ensures counts { interner.new.conjunctions
+        ≤ interner.old.conjunctions + 2 * (limit * length requirements.now) }
+{
+    requirements.are_read();
+    let names = doubtful_packages(alloc, requirements.lines(), limit)?;
+    let table = packages_table_within(alloc, requirements, &names, interner, limit, in_all)?;
+    let listed = conflicts_in(alloc, &table, &names)?;
+    Ok(listed)
 }
 
 /// The conflicts of the packages with these names, one package after another.
@@ -91,25 +126,27 @@ fn conflicts_in(
     let mut found = Vec::new(alloc);
     for name in names {
         match table.cases(name) {
-            Some(cases) => add_conflicts(alloc, &mut found, name, cases)?,
+            Some(cases) => add_conflicts(alloc, &mut found, table, name, cases)?,
             None => (),
         }
     }
     Ok(found)
 }
 
-/// Appends those of a package's cases that are conflicts.
+/// Appends those of a package's cases in a table that are conflicts. The range of each is made in turn.
 fn add_conflicts(
     alloc: Global,
     found: &mut Vec<Conflict>,
+    table: &Table,
     name: &PackageName,
     cases: &[Case],
 ) -> Result<(), AllocError>
-    ensures { OnOk result (AddsPicked name.now (map case_record cases.now)
+    ensures { OnOk result (AddsPicked (kept_under name.now table.now) name.now (map case_record cases.now)
         (map conflict_record found.old.items) (map conflict_record found.new.items)) }
 {
     for case in cases {
-        if is_conflict(case) {
+        let conflicting = is_conflict(alloc, table, name, case)?;
+        if conflicting {
             push_conflict(alloc, found, name, case)?;
         }
     }
@@ -134,14 +171,22 @@ fn push_conflict(
     Ok(())
 }
 
-/// Whether the case has a line, and an empty range.
-#[tactic(auto, using(crate::proofs::Picked::has_none))]
-fn is_conflict(case: &Case) -> bool
-    ensures { IsTrue result ↔ HasNoPoint (case_record case.now) }
+/// Whether the case of a package has a line, and an empty range.
+fn is_conflict(
+    alloc: Global,
+    table: &Table,
+    name: &PackageName,
+    case: &Case,
+) -> Result<bool, AllocError>
+    ensures { IfOk result (λ conflict.
+        IsTrue conflict ↔ HasNoPoint (kept_under name.now table.now) (case_record case.now)) }
 {
-    match &case.range {
-        Some(range) => !case.lines.is_empty() && holds_nothing(range),
-        None => false,
+    if case.lines.is_empty() {
+        return Ok(false);
+    }
+    match table.range(alloc, name, case)? {
+        Some(range) => Ok(holds_nothing(&range)),
+        None => Ok(false),
     }
 }
 

@@ -5,4 +5,4 @@ mod contradicting;
 mod doubtful;
 pub mod laws;
 
-pub use contradicting::{Conflict, conflicts};
+pub use contradicting::{Conflict, conflicts, conflicts_within};

@@ -3,10 +3,10 @@ use Rattle.std.proofs.Common.{◌≡◌, ◌∙◌, ◌≤◌, ◌||◌, ℕ, su
 use Rattle.std.proofs.Common.{length, arith, inl, inr}
 use Rattle.std.proofs.Common.{refl, sym, ap, subst, true≢false}
 use Rattle.std.proofs.lemmas.Bool.{cases_Bool}
-use Rattle.std.specs.List.{list_any, AllZip}
+use Rattle.std.specs.List.{list_any, AllZip, AllByRecursion}
 use Rattle.std.specs.Str.{bytes_eq}
 use Rattle.pep508_url.specs.Vars.{Variables}
-use Rattle.pep508_cases.specs.Cases.{HasMore}
+use Rattle.pep508_cases.specs.Cases.{Marks, IsRealised, HasMore}
 use Rattle.pep508_tree.specs.Meaning.{NodeRecord, IsTree}
 use Rattle.reqtable_answer.proofs.Tests.{same_bytes}
 use Rattle.reqtable_requirements.specs.Asks.{lines_of, AreOfNodes}
@@ -15,6 +15,7 @@ use Rattle.reqtable_requirements.specs.LineReading.{LineRecord}
 use Rattle.reqtable_requirements.specs.Requirements.{StandsFor}
 use Rattle.reqtable_requirements.specs.declared.requirements.Line.{Line}
 use Rattle.reqtable_cases.specs.Lines.{is_named, line_marks, HasTooMany, IsFirstTooMany}
+use Rattle.reqtable_table.specs.InAll.{AreSomeCases, HasMoreInAll, HasTooManyInAll}
 use Rattle.reqtable_packages.specs.Packages.{said_among}
 use Rattle.reqtable_packages.proofs.Standing.{zip_filtered}
 
@@ -115,6 +116,39 @@ module _ (names : List (List ℕ)) (q : List ℕ) where
     more = subst (λ lines. HasMore limit (line_marks lines)) (sym (among_lines said is)) h.more;
   }
 
+-- ---- all cases together
+
+module _ (limit : ℕ) (names : List (List ℕ)) (said : List LineRecord) where
+  some_cases : (q : List ℕ) (sets : List Marks) → AreSomeCases limit (said_among names said) q sets →
+      AreSomeCases limit said q sets
+  some_cases q sets some =
+      let is = is_among names q said some.named in
+      record {
+        named = sym (among_named names q said is) ∙ some.named;
+        rising = some.rising;
+        realised =
+            subst (λ lines. AllByRecursion (IsRealised (line_marks lines)) sets) (among_lines names q said is) some.realised;
+        few = some.few;
+      }
+
+  all_some : (qs : List (List ℕ)) (sets : List (List Marks)) → AllZip (AreSomeCases limit (said_among names said)) qs sets →
+      AllZip (AreSomeCases limit said) qs sets
+  all_some [] [] h = tt
+  all_some [] (s ∷ sets) h = absurd h
+  all_some (q ∷ qs) [] h = absurd h
+  all_some (q ∷ qs) (s ∷ sets) h = (some_cases q s h.0, all_some qs sets h.1)
+
+  more_in_all : (in_all : ℕ) (last : List ℕ) → HasMoreInAll limit in_all (said_among names said) last →
+      HasMoreInAll limit in_all said last
+  more_in_all in_all last h = record {
+    names = h.names;
+    rising = h.rising;
+    up_to = h.up_to;
+    sets = h.sets;
+    each = all_some h.names h.sets h.each;
+    more = h.more;
+  }
+
 -- ---- where no other package has too many cases
 
 module _ (limit : ℕ) (names : List (List ℕ)) (said : List LineRecord)
@@ -133,4 +167,12 @@ module _ (limit : ℕ) (names : List (List ℕ)) (said : List LineRecord)
   first_too_many name first = record {
     has = too_many names name limit said first.has;
     first = λ other less. none_of other (first.first other less);
+  }
+
+  pub too_many_in_all : (in_all : ℕ) → HasTooManyInAll limit in_all (said_among names said) →
+      HasTooManyInAll limit in_all said
+  too_many_in_all in_all h = record {
+    last = h.last;
+    more = more_in_all limit names said in_all h.last h.more;
+    before = λ other less. none_of other (h.before other less);
   }

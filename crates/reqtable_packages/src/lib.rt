@@ -6,4 +6,4 @@ mod names;
 mod packages;
 
 pub use names::package_names;
-pub use packages::{Groups, by_package, has_room, packages_table};
+pub use packages::{Groups, by_package, has_room, packages_table, packages_table_within};

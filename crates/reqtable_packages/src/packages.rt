@@ -14,7 +14,7 @@ ghost use Rattle.pep508_tree.specs.Meaning.{Extends};
 ghost use Rattle.reqtable_requirements.specs.Asks.{AreOfNodes};
 ghost use Rattle.reqtable_requirements.specs.LineReading.{LineRecord};
 ghost use Rattle.reqtable_requirements.specs.Requirements.{StandsFor};
-ghost use Rattle.reqtable_table.specs.Cases.{Builds, HasItsCases};
+ghost use Rattle.reqtable_table.specs.Cases.{Builds, BuildsWithin, HasItsCases};
 ghost use Rattle.reqtable_packages.specs.Packages.{HasRoom, lines_at, lines_under, said_among};
 
 use pep508_name::PackageName;
@@ -93,4 +93,36 @@ pub fn packages_table(
 {
     let copy = copied_packages(alloc, requirements, names)?;
     Table::build(alloc, copy, interner, limit)
+}
+
+/// The table of some packages of borrowed requirements, by `Table::build_within` from a copy of their lines:
+/// only the cases of these packages are counted. The names are in rising order. The copy costs a twentieth of
+/// reading these lines, the table what `Table::build_within` does.
+///
+/// # Errors
+///
+/// Those of `Table::build_within`: `TableError::TooManyCases` for the first package by name that has more
+/// cases than `limit`, `TableError::TooManyCasesInAll` where these packages have more than `in_all` cases
+/// together, whichever of the two comes at a package before. `TableError::Memory` when memory runs out.
+pub fn packages_table_within(
+    alloc: Global,
+    requirements: &Requirements,
+    names: &[&PackageName],
+    interner: &mut Interner,
+    limit: u64,
+    in_all: u64,
+) -> Result<Table, TableError>
+    requires rising { IsStrictlySortedBy (slice_cmp nat_cmp) (map (λ name. name.now) names.now) }
+    requires trees { AreOfNodes interner.old.nodes requirements.now }
+    ensures built { (vars : Variables) (said : List LineRecord) →
+        AllZip (StandsFor vars interner.old.nodes) requirements.now said →
+        BuildsWithin limit in_all interner.new.nodes (said_among (map (λ name. name.now) names.now) said)
+        result }
+    ensures cases { IfOk result (AllByRecursion (HasItsCases interner.new.nodes)) }
+    ensures keeps { Extends interner.old.nodes interner.new.nodes }
+    ensures counts { interner.new.conjunctions
+        ≤ interner.old.conjunctions + 2 * (limit * length requirements.now) }
+{
+    let copy = copied_packages(alloc, requirements, names)?;
+    Table::build_within(alloc, copy, interner, limit, in_all)
 }

@@ -9,3 +9,4 @@ pub mod Numbers
 pub mod Specifiers
 pub mod LineCopies
 pub mod Among
+pub mod WithinBound

@@ -55,6 +55,7 @@ module _ (vars : Variables) (texts : List (ℕ × List ℕ)) (lines : List Marke
   error_in all back (errors.Line number error) e t h =
       (texts, text.1, back, e ∙ ap (λ n. texts ++ (n, text.1) ∷ back) (sym h.0), h.1)
   error_in all back (errors.NumberAtEnd number) e t h = tt
+  error_in all back (errors.TooManyNodes number most) e t h = absurd h
   error_in all back errors.Memory e t h = tt
 
   -- the next line is refused
@@ -76,13 +77,6 @@ lines_err Stands view vars texts reading (Ok x) error h r = absurd h
 lines_err Stands view vars texts reading (Err e) error h r =
     let P : RequirementsError → Type 0 = λ e. Tells (told_requirements e) reading × IsErrorIn vars texts e in
     subst P (sym h) r
-
--- and so is want of memory, of which nothing is told
-pub lines_memory : {X L : Type 0} (Stands : L → LineRecord → Type 0) (view : X → List L) (vars : Variables)
-    (texts : List (ℕ × List ℕ)) (reading : Result (List LineRecord) LinesFault) (result : Result X RequirementsError)
-    → IsErrAnd result (λ e. e ≡ errors.Memory) → ReadsLines Stands view vars texts reading result
-lines_memory Stands view vars texts reading result h =
-    lines_err Stands view vars texts reading result errors.Memory h (tt, tt)
 
 -- ---- lines with trees of their markers
 

@@ -9,7 +9,7 @@ use Rattle.pep508_error.specs.Errors.{error_text}
 use Rattle.reqtable_candidates.specs.Errors.{no_text}
 use Rattle.reqtable_requirements.specs.declared.requirements.RequirementsError.{RequirementsError}
 use Rattle.reqtable_requirements.specs.declared.requirements.RequirementsError.TheVariants.{NotText, Line}
-use Rattle.reqtable_requirements.specs.declared.requirements.RequirementsError.TheVariants.{NumberAtEnd}
+use Rattle.reqtable_requirements.specs.declared.requirements.RequirementsError.TheVariants.{NumberAtEnd, TooManyNodes}
 use Rattle.reqtable_requirements.specs.declared.requirements.RequirementsError.TheVariants.{Memory}
 
 -- the start of the message for an invalid line: its number, and the place in bytes of what is at fault
@@ -25,4 +25,6 @@ requirements_text (Line number error) =
     Some (requirement_front number error) ++? error_text url_error_text error
 requirements_text (NumberAtEnd number) =
     Some (codes "line " ++ decimal number ++ codes ": a version number can't be raised")
+requirements_text (TooManyNodes number most) =
+    Some (codes "line " ++ decimal number ++ codes ": more than " ++ decimal most ++ codes " nodes")
 requirements_text Memory = Some (codes "out of memory")

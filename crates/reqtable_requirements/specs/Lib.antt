@@ -7,3 +7,4 @@ pub mod LineSpecifiers
 pub mod ReadLines
 pub mod Errors
 pub mod Copies
+pub mod Within

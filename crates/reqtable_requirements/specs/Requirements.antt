@@ -48,17 +48,19 @@ pub record SaysLine (vars : Variables) (line : MarkedLine) (said : LineRecord) :
   pub asks : AsksFor (ReadsUrl vars) said.front.source line.requirement.version_or_url
   pub formula : formula_of line.requirement.formula ≡ said.formula
 
--- the fault of a text for an error; none for running out of memory
+-- the fault of a text for an error; none for running out of memory, nor for a bound that was passed
 abbrev pub told_requirements : RequirementsError → Option LinesFault
 told_requirements (errors.NotText offset) = Some (NotText offset)
 told_requirements (errors.Line number error) = Some (NoRequirement number)
 told_requirements (errors.NumberAtEnd number) = Some (NumberAtEnd number)
+told_requirements (errors.TooManyNodes number most) = None
 told_requirements errors.Memory = None
 
--- the error of a line is that of reading its text
+-- the error of a line is that of reading its text; none passes a bound
 abbrev pub IsErrorOf : Variables → ℕ → List ℕ → RequirementsError → Type 0
 IsErrorOf vars number text (errors.Line named error) =
     (named ≡ number) × IsRefused (ReadsUrl vars) lacks_memory vars text error
+IsErrorOf vars number text (errors.TooManyNodes named most) = ⊥
 IsErrorOf vars number text error = Unit {0}
 
 -- the result of reading one line
@@ -68,11 +70,12 @@ ReadsLine vars number text (Ok line) =
 ReadsLine vars number text (Err error) =
     Tells (told_requirements error) (line_of vars number text) × IsErrorOf vars number text error
 
--- the error is that of some line's text
+-- the error is that of some line's text; none passes a bound
 abbrev pub IsErrorIn : Variables → List (ℕ × List ℕ) → RequirementsError → Type 0
 IsErrorIn vars texts (errors.Line number error) =
     (front : List (ℕ × List ℕ)) × (text : List ℕ) × (back : List (ℕ × List ℕ))
     × (texts ≡ front ++ (number, text) ∷ back) × IsRefused (ReadsUrl vars) lacks_memory vars text error
+IsErrorIn vars texts (errors.TooManyNodes number most) = ⊥
 IsErrorIn vars texts error = Unit {0}
 
 -- the result of reading some lines, by how they are read: lines each of which represents its record

@@ -4,14 +4,14 @@
 //! marker, and the answer to these. It is stated for all records that the lines stand for, so a caller who
 //! read a text has the answer of that text.
 
-ghost use Rattle.std.specs.Prelude.{◌≡◌, List, length, map, All, IfOk};
+ghost use Rattle.std.specs.Prelude.{◌≡◌, ◌<◌, List, length, map, All, IfOk, OnErr};
 ghost use Rattle.std.specs.List.{AllZip};
 ghost use Rattle.pep508_url.specs.Vars.{Variables};
 ghost use Rattle.pep508_evaluation.specs.Valuations.{valuation_of};
 ghost use Rattle.reqtable_answer.specs.Admission.{Admits, AnswersBy};
 ghost use Rattle.reqtable_answer.specs.Answer.{IsAnswer};
 ghost use Rattle.reqtable_answer.specs.Rows.{row_seen, IsTakenBelow};
-ghost use Rattle.reqtable_answer.specs.Says.{asks_seen, marked_seen, requirement_seen};
+ghost use Rattle.reqtable_answer.specs.Says.{SayAll, asks_seen, marked_seen, requirement_seen};
 ghost use Rattle.reqtable_requirements.specs.Asks.{AreOfNodes, applying, applying_marked, asks_of};
 ghost use Rattle.reqtable_requirements.specs.LineReading.{LineRecord};
 ghost use Rattle.reqtable_requirements.specs.Requirements.{SaysLine, StandsFor};
@@ -87,9 +87,29 @@ impl MarkedLines {
         ensures places { IfOk result (λ answer.
             All (λ row. IsTakenBelow (length candidates.now) row.outcome) answer.rows.items) }
     {
-        let asks = applying_marked(alloc, self.lines(), environment, extras)?;
+        let asks = asks_in(alloc, self, environment, extras)?;
         answer_to(alloc, &asks, candidates, admission)
     }
+}
+
+/// What each line requires whose marker holds in the environment with the extras, in the order of the lines.
+/// Evaluates each line's marker once, as `holds_in` does.
+///
+/// # Errors
+///
+/// `AllocError` when memory runs out, which no empty list needs.
+pub fn asks_in<'a>(
+    alloc: Global,
+    lines: &'a MarkedLines,
+    environment: &MarkerEnvironment,
+    extras: &[ExtraName],
+) -> Result<Vec<Ask<'a>>, AllocError>
+    ensures said { IfOk result (λ asks. (vars : Variables) (said : List LineRecord) →
+        AllZip (SaysLine vars) lines.now said →
+        SayAll asks.items (asks_of (valuation_of environment.now extras.now) said)) }
+    ensures grown { OnErr result (0 < length lines.now) }
+{
+    applying_marked(alloc, lines.lines(), environment, extras)
 }
 
 /// What each line requires whose marker holds in the environment with the extras, in the order of the lines.
@@ -122,8 +142,9 @@ fn applying_marked<'a>(
     environment: &MarkerEnvironment,
     extras: &[ExtraName],
 ) -> Result<Vec<Ask<'a>>, AllocError>
-    ensures { IfOk result (λ asks. asks_seen asks.items ≡ map marked_seen
+    ensures asks { IfOk result (λ asks. asks_seen asks.items ≡ map marked_seen
         (applying_marked (valuation_of environment.now extras.now) lines.now)) }
+    ensures grown { OnErr result (0 < length lines.now) }
 {
     let mut asks = Vec::new(alloc);
     for line in lines {

@@ -6,5 +6,6 @@ pub mod laws;
 mod marked;
 mod requirements;
 
+pub use judgement::asks_in;
 pub use marked::{MarkedLine, MarkedLines};
 pub use requirements::{Line, Requirements, RequirementsError, copied_packages};

@@ -10,24 +10,27 @@
 //! no clause on a table would show. So `reqtable` does not re-export it, and `gate/lent.py` sees who names
 //! it.
 
-ghost use Rattle.std.specs.Prelude.{◌≡◌, Some, List, IfOk, map};
+ghost use Rattle.std.specs.Prelude.{◌≡◌, ◌≤◌, Some, None, List, IfOk, length, map};
 ghost use Rattle.std.specs.Cmp.Lexicographic.{slice_cmp};
 ghost use Rattle.std.specs.List.{AllZip, list_any};
 ghost use Rattle.std.specs.List.Sorted.{IsStrictlySortedBy};
 ghost use Rattle.std.specs.Ordering.{nat_cmp};
 ghost use Rattle.std.specs.Str.{bytes_eq};
 ghost use Rattle.pep508_tree.specs.Meaning.{Extends};
+ghost use Rattle.pep508_formula.specs.Postfix.{formula_of};
+ghost use Rattle.pep508_marker_parser.specs.MarkerOutcome.{IsTreeOf};
 ghost use Rattle.reqtable_requirements.specs.Copies.{IsLineCopy, lines_among};
 ghost use Rattle.pep508_url.specs.Vars.{Variables};
 ghost use Rattle.reqtable_requirements.specs.LineReading.{LineRecord};
 ghost use Rattle.reqtable_requirements.specs.ReadLines.{AreRead};
 ghost use Rattle.reqtable_requirements.specs.Requirements.{ReadsRequirements, SaysLine, StandsFor};
+ghost use Rattle.reqtable_requirements.specs.Within.{MakesWithin, ReadsWithin, StaysWithin};
 
 use crate::laws::{line_numbers_rise, specifiers_are_read_from_texts};
 use crate::{MarkedLine, MarkedLines};
 use pep508_error::Pep508Error;
 use pep508_name::PackageName;
-use pep508_requirement::Requirement;
+use pep508_requirement::{MarkedRequirement, Requirement};
 use pep508_tree::Interner;
 use pep508_url::{Vars, VerbatimUrl};
 use std::alloc::{AllocError, AllocFailed, Global};
@@ -75,6 +78,12 @@ pub enum RequirementsError {
     NumberAtEnd {
         number: usize,
     },
+    /// After the tree of this line the interner has more than `most` nodes. Only a call that takes a bound
+    /// returns it.
+    TooManyNodes {
+        number: usize,
+        most: usize,
+    },
     /// Memory ran out while reading.
     Memory,
 }
@@ -105,6 +114,9 @@ impl fmt::Display for RequirementsError {
             }
             RequirementsError::NumberAtEnd { number } => {
                 write!(f, "line {number}: a version number can't be raised")
+            }
+            RequirementsError::TooManyNodes { number, most } => {
+                write!(f, "line {number}: more than {most} nodes")
             }
             RequirementsError::Memory => write!(f, "out of memory"),
         }
@@ -169,8 +181,36 @@ impl Requirements {
         ensures keeps { Extends interner.old.nodes interner.new.nodes }
         ensures counts { interner.new.conjunctions ≡ interner.old.conjunctions }
     {
+        let _ = interner.node_count();
+        let read = Requirements::parse_within(alloc, bytes, interner, vars, usize::MAX);
+        let _ = interner.node_count();
+        read
+    }
+
+    /// Reads a requirements text as `parse` does, and stops once the interner has more than `most` nodes.
+    ///
+    /// An interner made by `Interner::with_most` with the same bound also stops in the middle of a line's
+    /// tree; with another one that tree is made whole. All lines are read before the first tree is made, so
+    /// every other fault of the text is reported before this one. Time and memory are those of `parse`.
+    ///
+    /// # Errors
+    ///
+    /// `RequirementsError::TooManyNodes` for the first line after whose tree, or after the part of it that
+    /// was made, the interner has more than `most` nodes, and otherwise the errors of `parse`.
+    pub fn parse_within(
+        alloc: Global,
+        bytes: &[u8],
+        interner: &mut Interner,
+        vars: &Vars,
+        most: usize,
+    ) -> Result<Requirements, RequirementsError>
+        requires { length interner.old.nodes ≤ most }
+        ensures answered { ReadsWithin vars.now most interner.new.nodes bytes.now result }
+        ensures keeps { Extends interner.old.nodes interner.new.nodes }
+        ensures counts { interner.new.conjunctions ≡ interner.old.conjunctions }
+    {
         let marked = MarkedLines::parse(alloc, bytes, vars)?;
-        let lines = with_trees(alloc, interner, marked.into_lines())?;
+        let lines = with_trees(alloc, interner, marked.into_lines(), most)?;
         line_numbers_rise();
         specifiers_are_read_from_texts();
         Ok(Requirements { lines })
@@ -276,10 +316,14 @@ fn with_trees(
     alloc: Global,
     interner: &mut Interner,
     lines: Vec<MarkedLine>,
-) -> Result<Vec<Line>, AllocError>
+    most: usize,
+) -> Result<Vec<Line>, RequirementsError>
+    requires { length interner.old.nodes ≤ most }
     ensures made { IfOk result (λ made. (vars : Variables) (said : List LineRecord) →
         AllZip (SaysLine vars) lines.items said →
         AllZip (StandsFor vars interner.new.nodes) made.items said) }
+    ensures bound { (vars : Variables) (said : List LineRecord) → AllZip (SaysLine vars) lines.items said →
+        MakesWithin most interner.new.nodes said result }
     ensures keeps { Extends interner.old.nodes interner.new.nodes }
     ensures counts { interner.new.conjunctions ≡ interner.old.conjunctions }
 {
@@ -289,11 +333,42 @@ fn with_trees(
             number,
             requirement,
         } = line;
-        let requirement = requirement.with_tree(alloc, interner)?;
+        let requirement = with_tree(alloc, interner, requirement, number, most)?;
         made.push(Line {
             number,
             requirement,
         })?;
     }
     Ok(made)
+}
+
+/// The requirement of the line of this number, with a marker tree.
+fn with_tree(
+    alloc: Global,
+    interner: &mut Interner,
+    requirement: MarkedRequirement<VerbatimUrl>,
+    number: usize,
+    most: usize,
+) -> Result<Requirement<VerbatimUrl>, RequirementsError>
+    ensures tree { IfOk result (λ made.
+        IsTreeOf interner.new.nodes made.marker (formula_of requirement.formula)) }
+    ensures same { IfOk result (λ made. made ≡ record {
+      name = requirement.name;
+      extras = requirement.extras;
+      version_or_url = requirement.version_or_url;
+      marker = made.marker;
+      origin = None;
+    }) }
+    ensures bound { StaysWithin most interner.new.nodes number result }
+    ensures keeps { Extends interner.old.nodes interner.new.nodes }
+    ensures counts { interner.new.conjunctions ≡ interner.old.conjunctions }
+{
+    let made = requirement.with_tree(alloc, interner);
+    if interner.node_count() > most {
+        return Err(RequirementsError::TooManyNodes { number, most });
+    }
+    match made {
+        Ok(made) => Ok(made),
+        Err(_) => Err(RequirementsError::Memory),
+    }
 }

@@ -1,6 +1,6 @@
 -- What a table of all groups is to the lines of the text.
 use Rattle.std.proofs.Common.{◌≡◌, ◌∙◌, ◌+◌, ℕ, Bool, true, false, cond, ◌||◌, List, [], ◌∷◌, ◌++◌, map, filter}
-use Rattle.std.proofs.Common.{refl, sym, ap, subst, append-nil, append_assoc, true≢false, Less, Err, inl, inr}
+use Rattle.std.proofs.Common.{refl, sym, ap, subst, append-nil, true≢false, inl, inr}
 use Rattle.std.proofs.lemmas.Bool.{cases_Bool}
 use Rattle.std.proofs.lemmas.Cmp.{nat_list_eq_equiv}
 use Rattle.std.proofs.lemmas.List.{map-append}
@@ -10,28 +10,24 @@ use Rattle.std.specs.List.Sorted.{IsStrictlySortedBy}
 use Rattle.std.specs.Str.{bytes_eq}
 use Rattle.pep508_url.specs.Vars.{Variables}
 use Rattle.pep508_tree.specs.Meaning.{NodeRecord, IsTree, Extends}
-use Rattle.pep508_tree.proofs.Conjoining.{extends_itself}
 use Rattle.pep508_cases.specs.Cases.{marks_of, HasMore}
 use Rattle.reqtable_answer.proofs.Tests.{same_bytes}
 use Rattle.reqtable_requirements.specs.Asks.{AreOfNodes, lines_of}
 use Rattle.reqtable_requirements.specs.LineReading.{LineRecord}
 use Rattle.reqtable_requirements.specs.Requirements.{StandsFor}
 use Rattle.reqtable_requirements.specs.declared.requirements.Line.{Line}
-use Rattle.reqtable_cases.specs.Lines.{line_marks, is_named, HasTooMany, IsFirstTooMany}
+use Rattle.reqtable_cases.specs.Lines.{line_marks, is_named, HasTooMany}
 use Rattle.reqtable_groups.specs.declared.given.Given.{Given}
 use Rattle.reqtable_groups.specs.declared.lines_by_package.Group.{Group}
-use Rattle.reqtable_table.specs.declared.table.TableError.{TableError}
-use Rattle.reqtable_table.specs.declared.table.TableError.TheVariants.{TooManyCases, Memory}
 use Rattle.reqtable_groups.specs.Given.{given_by, is_under, group_names, lines_under, AreGrouped}
 use Rattle.reqtable_table.specs.Kept.{KeptPackage, names_in, kept_under, Keeps, KeepsAll}
 use Rattle.reqtable_table.specs.KeptLines.{kept_by}
-use Rattle.reqtable_table.specs.Cases.{HasItsCases, Builds}
+use Rattle.reqtable_table.specs.Cases.{HasItsCases}
 use Rattle.reqtable_table.specs.Counts.{tests_of, all_tests}
-use Rattle.reqtable_table.specs.Building.{AreOfTrees, group_marks, IsPackageOf, HasFirstTooMany}
-use Rattle.reqtable_table.specs.Building.{IsFirstRefusal}
+use Rattle.reqtable_table.specs.Building.{AreOfTrees, group_marks, IsPackageOf}
 use Rattle.reqtable_table.proofs.Firsts.{no_more}
 use Rattle.reqtable_table.proofs.Packages.{kept_markers}
-use Rattle.reqtable_table.proofs.Rising.{name_cmp, below_other, around, not_before, stands_before, AllBefore}
+use Rattle.reqtable_table.proofs.Rising.{name_cmp, below_other, around, not_before, AllBefore}
 use Rattle.reqtable_table.proofs.Said.{lines_kept, named_alike, marks_said}
 
 -- ---- the table beside its groups
@@ -81,7 +77,7 @@ module _ (limit : ℕ) (nodes : List NodeRecord) where
       let rest = none_asked groups table h.1 in
       (λ i. here i + rest i)
 
-  made_of : (front : List Group) (group : Group) (back : List Group) (table : List KeptPackage) →
+  pub made_of : (front : List Group) (group : Group) (back : List Group) (table : List KeptPackage) →
       AllZip (IsPackageOf limit nodes) (front ++ group ∷ back) table → (kept : KeptPackage) × IsPackageOf limit nodes group kept
   made_of [] group back [] h = absurd h
   made_of [] group back (kept ∷ table) h = (kept, h.0)
@@ -94,7 +90,7 @@ abbrev Found : List ℕ → List Group → Type 0
 Found q groups =
     (front : List Group) × (group : Group) × (back : List Group) × (groups ≡ front ++ group ∷ back) × (group.name ≡ q)
 
-found : (q : List ℕ) (groups : List Group) → list_any (bytes_eq q) (group_names groups) ≡ true → Found q groups
+pub found : (q : List ℕ) (groups : List Group) → list_any (bytes_eq q) (group_names groups) ≡ true → Found q groups
 found q [] h = absurd (true≢false (sym h))
 found q (group ∷ groups) h = elim (cases_Bool (bytes_eq q group.name)) [
   | inl e ↦ ([], group, groups, refl, sym (same_bytes q group.name e))
@@ -103,7 +99,7 @@ found q (group ∷ groups) h = elim (cases_Bool (bytes_eq q group.name)) [
       (group ∷ rest.0, rest.1, rest.2, ap (λ l. group ∷ l) rest.3, rest.4)
 ]
 
-names_split : (front : List Group) (group : Group) (back : List Group) →
+pub names_split : (front : List Group) (group : Group) (back : List Group) →
     group_names (front ++ group ∷ back) ≡ group_names front ++ group.name ∷ group_names back
 names_split front group back = map-append (λ (g : Group). g.name) front (group ∷ back)
 
@@ -175,7 +171,7 @@ groups_of_trees nodes lines groups h are =
 module _ (vars : Variables) (old new : List NodeRecord) (keeps : Extends old new) (lines : List Line) (groups : List Group)
     (are : AreGrouped lines groups) (said : List LineRecord) (stand : AllZip (StandsFor vars old) lines said) where
   -- which lines of a group apply is what the lines of its name say
-  group_is_said : (front : List Group) (group : Group) (back : List Group) → groups ≡ front ++ group ∷ back →
+  pub group_is_said : (front : List Group) (group : Group) (back : List Group) → groups ≡ front ++ group ∷ back →
       group_marks new group ≡ line_marks (lines_of group.name said)
   group_is_said front group back split =
       let rising = subst (IsStrictlySortedBy name_cmp) (ap group_names split ∙ names_split front group back) are.rising in
@@ -198,7 +194,7 @@ module _ (vars : Variables) (old new : List NodeRecord) (keeps : Extends old new
         (lines_kept vars old new keeps q lines said stand);
   }
 
-  is_there : (q : List ℕ) → is_named q said ≡ true → list_any (bytes_eq q) (group_names groups) ≡ true
+  pub is_there : (q : List ℕ) → is_named q said ≡ true → list_any (bytes_eq q) (group_names groups) ≡ true
   is_there q h = are.named q ∙ named_alike vars old new keeps q lines said stand ∙ h
 
   pub none_too_many : (limit : ℕ) (table : List KeptPackage) → AllZip (IsPackageOf limit new) groups table →
@@ -213,7 +209,7 @@ module _ (vars : Variables) (old new : List NodeRecord) (keeps : Extends old new
       KeepsAll new table said × AllByRecursion (HasItsCases new) table × ((q : List ℕ) → HasTooMany limit said q → ⊥)
   all_built limit table made = (keeps_all limit table made, all_cases limit new groups table made, none_too_many limit table made)
 
--- ---- what is refused
+-- ---- a group's name
 
 or_true : (b : Bool) → (b || true) ≡ true
 or_true true = refl
@@ -225,52 +221,7 @@ in_front [] group back = ap (λ b. b || list_any (bytes_eq group.name) (group_na
 in_front (one ∷ front) group back =
     ap (λ b. bytes_eq group.name one.name || b) (in_front front group back) ∙ or_true (bytes_eq group.name one.name)
 
-is_in : (front : List Group) (group : Group) (back groups : List Group) → groups ≡ front ++ group ∷ back →
+pub is_in : (front : List Group) (group : Group) (back groups : List Group) → groups ≡ front ++ group ∷ back →
     list_any (bytes_eq group.name) (group_names groups) ≡ true
 is_in front group back groups split =
     ap (λ g. list_any (bytes_eq group.name) (group_names g)) split ∙ in_front front group back
-
-module _ (vars : Variables) (nodes : List NodeRecord) (lines : List Line) (groups : List Group)
-    (are : AreGrouped lines groups) (said : List LineRecord) (stand : AllZip (StandsFor vars nodes) lines said) where
-  abbrev itself : Extends nodes nodes
-  itself = extends_itself nodes
-
-  before_is : (limit : ℕ) (front : List Group) → AllByRecursion (λ group. HasMore limit (group_marks nodes group) → ⊥) front →
-      (first : List Group) (group : Group) (later : List Group) → front ≡ first ++ group ∷ later → HasMore limit (group_marks nodes group) → ⊥
-  before_is limit front none [] group later e =
-      (subst (AllByRecursion (λ (g : Group). HasMore limit (group_marks nodes g) → ⊥)) e none).0
-  before_is limit [] none (one ∷ first) group later e = λ more. absurd (cc)
-  before_is limit (two ∷ front) none (one ∷ first) group later e =
-      before_is limit (first ++ group ∷ later) (subst (AllByRecursion (λ (g : Group). HasMore limit (group_marks nodes g) → ⊥)) e none).1 first group later refl
-
-  pub first_too_many : (limit : ℕ) (name : List ℕ) → HasFirstTooMany limit nodes groups name → IsFirstTooMany limit said name
-  first_too_many limit name has =
-      let split = has.split in
-      let names : group_names groups ≡ group_names has.front ++ has.group.name ∷ group_names has.back =
-      ap group_names split ∙ names_split has.front has.group has.back in
-      let rising = subst (IsStrictlySortedBy name_cmp) names are.rising in
-      let said_here = group_is_said vars nodes nodes itself lines groups are said stand in
-      record {
-        has = record {
-          named =
-              sym (are.named name ∙ named_alike vars nodes nodes itself name lines said stand)
-              ∙ ap (λ n. list_any (bytes_eq n) (group_names groups)) has.named
-              ∙ is_in has.front has.group has.back groups split;
-          more = subst (HasMore limit) (said_here has.front has.group has.back split ∙ ap (λ n. line_marks (lines_of n said)) (sym has.named)) has.more;
-        };
-        first = λ other less many.
-            let there = is_there vars nodes nodes itself lines groups are said stand other many.named in
-            let inside = stands_before other (group_names has.front) has.group.name (group_names has.back)
-            (subst (λ n. name_cmp other n ≡ Less) has.named less) rising
-            (subst (λ l. list_any (bytes_eq other) l ≡ true) names there) in
-            let at = found other has.front inside in
-            let whole : groups ≡ at.0 ++ at.1 ∷ (at.2 ++ has.group ∷ has.back) =
-            split ∙ ap (λ l. l ++ has.group ∷ has.back) at.3 ∙ append_assoc at.0 (at.1 ∷ at.2) (has.group ∷ has.back) in
-            before_is limit has.front has.before at.0 at.1 at.2 at.3
-            (subst (HasMore limit) (sym (said_here at.0 at.1 (at.2 ++ has.group ∷ has.back) whole ∙ ap (λ n. line_marks (lines_of n said)) at.4)) many.more);
-      }
-
-  pub refused_so : (limit : ℕ) (new : List NodeRecord) (error : TableError) → IsFirstRefusal limit nodes groups error →
-      Builds limit new said (Err error)
-  refused_so limit new (TooManyCases name) h = first_too_many limit name h
-  refused_so limit new Memory h = tt

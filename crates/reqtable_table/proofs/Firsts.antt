@@ -1,6 +1,6 @@
 -- Packages one after another, up to the first that has too many cases.
-use Rattle.std.proofs.Common.{◌≡◌, ◌∙◌, ℕ, ◌≤◌, ◌+◌, ◌*◌, List, [], ◌∷◌, ◌++◌, map, length, sym, ap, subst}
-use Rattle.std.proofs.Common.{arith, append-nil}
+use Rattle.std.proofs.Common.{◌≡◌, ◌∙◌, ℕ, ◌≤◌, ◌<◌, ◌+◌, ◌*◌, List, [], ◌∷◌, ◌++◌, map, length, sym, ap, subst}
+use Rattle.std.proofs.Common.{arith, append-nil, Option, inl, inr}
 use Rattle.std.proofs.lemmas.List.{length-append}
 use Rattle.std.proofs.lemmas.List.Concat.{flat_map-append}
 use Rattle.std.proofs.Math.Nat.{mul-le-mul_left}
@@ -12,11 +12,11 @@ use Rattle.pep508_cases.proofs.Counting.{more_than_all}
 use Rattle.reqtable_groups.specs.declared.given.Given.{Given}
 use Rattle.reqtable_groups.specs.declared.lines_by_package.Group.{Group}
 use Rattle.reqtable_table.specs.declared.table.TableError.{TableError}
-use Rattle.reqtable_table.specs.declared.table.TableError.TheVariants.{TooManyCases, Memory}
 use Rattle.reqtable_groups.specs.Given.{lines_in}
 use Rattle.reqtable_table.specs.Kept.{KeptLine, KeptPackage}
-use Rattle.reqtable_table.specs.Cases.{IsCaseOf}
+use Rattle.reqtable_table.specs.Cases.{IsCaseOf, table_cases}
 use Rattle.reqtable_table.specs.Building.{AreOfTrees, group_marks, IsPackageOf, IsRefusal, IsFirstRefusal}
+use Rattle.reqtable_table.specs.Building.{most_cases, IsLeft}
 use Rattle.reqtable_table.proofs.Packages.{marks_kept, given_trees, kept_markers, has_kept, as_long}
 
 -- ---- nodes are added
@@ -92,40 +92,51 @@ pushed_all P (y ∷ xs) x h p = (h.0, pushed_all P xs x h.1 p)
 
 -- ---- the first that is refused
 
+-- a package with no more cases than some number, which is at most the limit
+pub of_fewer : (most limit : ℕ) (nodes : List NodeRecord) (group : Group) (kept : KeptPackage) → most ≤ limit →
+    IsPackageOf most nodes group kept → IsPackageOf limit nodes group kept
+of_fewer most limit nodes group kept less is = record {
+  name = is.name;
+  lines = is.lines;
+  cases = is.cases;
+  few = (let few = is.few in omega (arith, few, less));
+}
+
+-- a group has more cases than a number only where its package does
+pub longer : (limit : ℕ) (nodes : List NodeRecord) (group : Group) (kept : KeptPackage) (n : ℕ) →
+    IsPackageOf limit nodes group kept → HasMore n (group_marks nodes group) → n < length kept.cases
+longer limit nodes group kept n is more =
+    let markers : map (λ (line : KeptLine). line.marker) kept.lines ≡ map (λ (line : Given). line.marker) group.lines.items =
+    ap (map (λ (line : KeptLine). line.marker)) is.lines ∙ kept_markers group.lines.items in
+    let beyond = more_than_all (marks_of nodes (map (λ (line : KeptLine). line.marker) kept.lines)) nodes is.cases.sets n is.cases.are
+    (subst (HasMore n) (ap (marks_of nodes) (sym markers)) more) in
+    let long = as_long (IsCaseOf kept.lines) kept.cases is.cases.sets is.cases.each in
+    omega (arith, beyond, long)
+
 -- a package that was made has no more than the limit
 pub no_more : (limit : ℕ) (nodes : List NodeRecord) (group : Group) (kept : KeptPackage) → IsPackageOf limit nodes group kept →
     HasMore limit (group_marks nodes group) → ⊥
 no_more limit nodes group kept is more =
-    let markers : map (λ (line : KeptLine). line.marker) kept.lines ≡ map (λ (line : Given). line.marker) group.lines.items =
-    ap (map (λ (line : KeptLine). line.marker)) is.lines ∙ kept_markers group.lines.items in
-    let longer = more_than_all (marks_of nodes (map (λ (line : KeptLine). line.marker) kept.lines)) nodes is.cases.sets limit is.cases.are
-    (subst (HasMore limit) (ap (marks_of nodes) (sym markers)) more) in
-    let long = as_long (IsCaseOf kept.lines) kept.cases is.cases.sets is.cases.each in
+    let beyond = longer limit nodes group kept limit is more in
     let few = is.few in
-    omega (arith, longer, long, few)
+    omega (arith, beyond, few)
 
--- packages that were made have no more than the limit, also by the nodes before
-pub none_before : (limit : ℕ) (old now : List NodeRecord) (groups : List Group) (table : List KeptPackage) → Extends old now →
-    AllByRecursion (AreOfTrees old) groups → AllZip (IsPackageOf limit now) groups table →
-    AllByRecursion (λ group. HasMore limit (group_marks old group) → ⊥) groups
-none_before limit old now [] table keeps made h = tt
-none_before limit old now (group ∷ groups) [] keeps made h = absurd h
-none_before limit old now (group ∷ groups) (kept ∷ table) keeps made h = (
-  λ more. no_more limit now group kept h.0 (subst (HasMore limit) (group_marks_on old now group keeps made.0) more),
-  none_before limit old now groups table keeps made.1 h.1,
-)
-
-pub first_refused : (limit : ℕ) (old now : List NodeRecord) (done : List Group) (group : Group) (rest all : List Group)
-    (table : List KeptPackage) (error : TableError) → Extends old now → AllByRecursion (AreOfTrees old) done → AreOfTrees old group →
-    all ≡ done ++ group ∷ rest → AllZip (IsPackageOf limit now) done table → IsRefusal limit now group error →
-    IsFirstRefusal limit old all error
-first_refused limit old now done group rest all table (TooManyCases name) keeps made its split zip is = record {
-  front = done;
-  group = group;
-  back = rest;
-  split = split;
-  named = is.0;
-  more = subst (HasMore limit) (sym (group_marks_on old now group keeps its)) is.1;
-  before = none_before limit old now done table keeps made zip;
-}
-first_refused limit old now done group rest all table Memory keeps made its split zip is = tt
+pub first_refused : (limit : ℕ) (in_all : Option ℕ) (now new : List NodeRecord) (done : List Group) (group : Group)
+    (rest all : List Group) (table : List KeptPackage) (left : Option ℕ) (error : TableError) → Extends now new →
+    AreOfTrees now group → all ≡ done ++ group ∷ rest → AllZip (IsPackageOf limit now) done table →
+    IsLeft in_all (table_cases table) left → IsRefusal limit left now group error → IsFirstRefusal limit in_all new all error
+first_refused limit in_all now new done group rest all table left error keeps its split made is h = elim h [
+  | inl e ↦ inl e
+  | inr both ↦ inr (record {
+    front = done;
+    group = group;
+    back = rest;
+    split = split;
+    table = table;
+    made = packages_on limit now new done table keeps made;
+    left = left;
+    is_left = is;
+    refused = both.0;
+    more = subst (HasMore (most_cases limit left)) (group_marks_on now new group keeps its) both.1;
+  })
+]

@@ -3,9 +3,14 @@ pub mod Packages
 pub mod Rising
 pub mod Said
 pub mod Ranging
+pub mod Numbered
+pub mod UnderName
 pub mod Counting
 pub mod Firsts
+pub mod Rooms
+pub mod Sums
 pub mod Built
+pub mod InAll
 pub mod Lookup
 pub mod RowsOfLines
 pub mod AskedLines

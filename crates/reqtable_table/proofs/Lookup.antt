@@ -70,7 +70,7 @@ found_at (p ∷ table) (suc i) kept name h within is named =
     (nat_list_eq_equiv.symm name p.name ∙ below_other p.name name less)
     ∙ found_at table i kept name h.1 (omega arith) is named
 
-equal_names : (a b : List ℕ) → name_cmp a b ≡ Equal → a ≡ b
+pub equal_names : (a b : List ℕ) → name_cmp a b ≡ Equal → a ≡ b
 equal_names a b e = same_bytes a b (sym (is_eq-slice_cmp a b) ∙ ap is_eq e)
 
 -- the package at the place that was found
@@ -105,12 +105,18 @@ other name n e = nat_list_eq_equiv.symm name n ∙ below_other n name e
 behind : (name n : List ℕ) → name_cmp n name ≡ Greater → bytes_eq name n ≡ false
 behind name n e = nat_list_eq_equiv.symm name n ∙ sym (is_eq-slice_cmp n name) ∙ ap is_eq e
 
+-- no package has the name
+pub none_named : (table : List Package) (i : ℕ) (name : List ℕ) →
+    IsPartitionPoint (λ (kept : Package). name_cmp kept.name name ≡ Less) (λ kept. name_cmp kept.name name ≡ Greater) table i →
+    (k : ℕ) (d : Package) → k < length table → bytes_eq name (get_or table k d).name ≡ false
+none_named table i name parted k d within = elim (either_side k i) [
+  | inl less ↦ other name (get_or table k d).name (parted.0 k d (omega arith) less)
+  | inr not_less ↦ behind name (get_or table k d).name (parted.1 k d not_less within)
+]
+
 pub no_cases : (table : List Package) (i : ℕ) (name : List ℕ) →
     IsPartitionPoint (λ (kept : Package). name_cmp kept.name name ≡ Less) (λ kept. name_cmp kept.name name ≡ Greater) table i →
     cases_under name (map package_record table) ≡ None
 no_cases table i name parted =
     ap (option_map (λ (k : KeptPackage). k.cases))
-    (none_found table name (λ k d within. elim (either_side k i) [
-      | inl less ↦ other name (get_or table k d).name (parted.0 k d (omega arith) less)
-      | inr not_less ↦ behind name (get_or table k d).name (parted.1 k d not_less within)
-    ]))
+    (none_found table name (none_named table i name parted))

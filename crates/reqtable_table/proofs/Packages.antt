@@ -10,7 +10,6 @@ use Rattle.pep508_cases.proofs.Keeping.{cases_kept as cases_on}
 use Rattle.pep508_cases.specs.Cases.{Marks, marks_of, IsCase, AreCases}
 use Rattle.reqtable_answer.specs.Asks.{names_prerelease}
 use Rattle.reqtable_cases.specs.Lines.{marked}
-use Rattle.reqtable_cases.specs.Usable.{IsRangeOf}
 use Rattle.reqtable_groups.specs.declared.given.Given.{Given}
 use Rattle.reqtable_table.specs.Kept.{KeptLine, KeptCase, KeptPackage, kept_front}
 use Rattle.reqtable_table.specs.Cases.{IsCaseOf, HasItsCases}
@@ -88,7 +87,6 @@ one_kept lines case set is = record {
   numbers = is.numbers ∙ sym (ap (map (λ (line : KeptLine). line.number)) (marked_map kept_by set.0 lines)
       ∙ kept_numbers (marked set.0 lines));
   tree = is.tree;
-  range = subst (λ fronts. IsRangeOf fronts case.range) (sym (asks_kept lines set.0)) is.range;
   prerelease = is.prerelease ∙ sym (ap names_prerelease (asks_kept lines set.0));
 }
 

@@ -1,5 +1,5 @@
 -- What lying in a case says of a package.
-use Rattle.std.proofs.Common.{◌≡◌, ◌∙◌, ◌<◌, ℕ, false, List, [], ◌∷◌, None, length, map, get_or, sym, ap}
+use Rattle.std.proofs.Common.{◌≡◌, ◌∙◌, ◌<◌, ℕ, false, List, [], ◌∷◌, length, map, get_or, sym, ap}
 use Rattle.std.proofs.Common.{subst}
 use Rattle.std.proofs.lemmas.List.{length-map}
 use Rattle.std.specs.List.{AllZip}
@@ -19,7 +19,7 @@ use Rattle.reqtable_table.proofs.Same.{marks_same}
 use Rattle.reqtable_table.proofs.Told.{one_set, marked_numbers}
 
 some_case : KeptCase
-some_case = record { numbers = []; tree = always; range = None; prerelease = false }
+some_case = record { numbers = []; tree = always; prerelease = false }
 
 module _ (nodes : List NodeRecord) (v u : Valuation) (kept : KeptPackage) (stands : HasItsLines kept) (place : ℕ)
     (here : IsPlaceIn nodes v kept place) (there : IsPlaceIn nodes u kept place) where

@@ -12,24 +12,26 @@ use Rattle.reqtable_range.specs.Together.{lent}
 use Rattle.reqtable_answer.specs.Asks.{has_url, specifiers_of, names_prerelease}
 use Rattle.reqtable_cases.specs.Usable.{members_asked, is_ranged, is_usable, IsRangeOf, IsRangeOfMembers}
 use Rattle.reqtable_groups.specs.declared.given.Given.{Given}
-use Rattle.reqtable_table.specs.Kept.{kept_source}
+use Rattle.reqtable_table.specs.declared.kept.TableLine.{TableLine}
+use Rattle.reqtable_table.specs.Kept.{kept_source, kept_front}
+use Rattle.reqtable_table.specs.KeptLines.{lent_lines}
 use Rattle.reqtable_table.specs.Casing.{lent_given, given_front}
 
-abbrev asks_lent : List (Bor Given) → List Front
-asks_lent lines = map given_front (lent_given lines)
+abbrev asks_lent : List (Bor TableLine) → List Front
+asks_lent lines = map kept_front (lent_lines lines)
 
 url_by : (b : Bool) (members : List SpecifierRecord) → has_url (record { name = []; extras = []; source = kept_source b members }) ≡ b
 url_by true members = refl
 url_by false members = refl
 
-any_url : (lines : List (Bor Given)) → list_any has_url (asks_lent lines) ≡ list_any (λ line. line.now.is_url) lines
+any_url : (lines : List (Bor TableLine)) → list_any has_url (asks_lent lines) ≡ list_any (λ line. line.now.is_url) lines
 any_url [] = refl
 any_url (line ∷ lines) =
-    let here = url_by line.now.is_url line.now.specifiers in
+    let here = url_by line.now.is_url line.now.specifiers.members in
     let rest = any_url lines in
     (λ i. here i || rest i)
 
-pub some_url : (lines : List (Bor Given)) → list_any (λ line. line.now.is_url) lines ≡ true → is_usable (asks_lent lines) ≡ false
+pub some_url : (lines : List (Bor TableLine)) → list_any (λ line. line.now.is_url) lines ≡ true → is_usable (asks_lent lines) ≡ false
 some_url lines e =
     ap (λ b. not b && list_all is_ranged (members_asked (asks_lent lines))) (any_url lines ∙ e)
 
@@ -41,12 +43,12 @@ none_parts : (a b : Bool) → (a || b) ≡ false → (a ≡ false) × (b ≡ fal
 none_parts true b e = absurd (true≢false e)
 none_parts false b e = (refl, e)
 
-members_are : (lines : List (Bor Given)) → list_any (λ line. line.now.is_url) lines ≡ false →
-    members_asked (asks_lent lines) ≡ flat_map (λ line. line.specifiers) (lent_given lines)
+members_are : (lines : List (Bor TableLine)) → list_any (λ line. line.now.is_url) lines ≡ false →
+    members_asked (asks_lent lines) ≡ flat_map (λ line. line.specifiers.members) (lent_lines lines)
 members_are [] e = refl
 members_are (line ∷ lines) e =
     let parts = none_parts line.now.is_url (list_any (λ l. l.now.is_url) lines) e in
-    let here = own_by line.now.is_url line.now.specifiers parts.0 in
+    let here = own_by line.now.is_url line.now.specifiers.members parts.0 in
     let rest = members_are lines parts.1 in
     (λ i. here i ++ rest i)
 
@@ -59,8 +61,9 @@ range_by asks members (Some set) none e is = (
   λ p. is.1 p ∙ sym (ap (λ ms. all_hold (map range_of ms) p) e),
 )
 
-pub no_url : (lines : List (Bor Given)) (members : List (Bor SpecifierRecord)) (range : Option (List (Point VersionRecord))) →
-    list_any (λ line. line.now.is_url) lines ≡ false → lent members ≡ flat_map (λ line. line.specifiers) (lent_given lines) →
+pub no_url : (lines : List (Bor TableLine)) (members : List (Bor SpecifierRecord)) (range : Option (List (Point VersionRecord))) →
+    list_any (λ line. line.now.is_url) lines ≡ false →
+    lent members ≡ flat_map (λ line. line.specifiers.members) (lent_lines lines) →
     IsRangeOfMembers (lent members) range → IsRangeOf (asks_lent lines) range
 no_url lines members range e are is =
     range_by (asks_lent lines) (lent members) range (any_url lines ∙ e) (members_are lines e ∙ sym are) is
@@ -73,7 +76,8 @@ named_by true members = refl
 named_by false members = refl
 
 pub any_named : (lines : List (Bor Given)) →
-    list_any (λ line. not line.now.is_url && any_prerelease line.now.specifiers) lines ≡ names_prerelease (asks_lent lines)
+    list_any (λ line. not line.now.is_url && any_prerelease line.now.specifiers) lines
+    ≡ names_prerelease (map given_front (lent_given lines))
 any_named [] = refl
 any_named (line ∷ lines) =
     let here = named_by line.now.is_url line.now.specifiers in

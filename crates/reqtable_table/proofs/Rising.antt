@@ -1,11 +1,12 @@
 -- Lists whose names rise: what stands around one of them.
 use Rattle.std.proofs.Common.{◌≡◌, ◌∙◌, ℕ, Bool, true, false, ◌||◌, List, [], ◌∷◌, ◌++◌, refl, sym, ap, Less}
-use Rattle.std.proofs.lemmas.Cmp.{nat_list_cmp_total}
+use Rattle.std.proofs.Common.{Equal, Greater, true≢false}
+use Rattle.std.proofs.lemmas.Cmp.{nat_list_cmp_total, tied_itself}
 use Rattle.std.proofs.lemmas.List.Folds.{list_any-append}
 use Rattle.std.proofs.lemmas.Map.Text.{is_eq-slice_cmp}
 use Rattle.std.specs.List.{list_any, AllByRecursion}
 use Rattle.std.specs.List.Sorted.{IsStrictlySortedBy}
-use Rattle.std.specs.Ordering.{nat_cmp, is_eq}
+use Rattle.std.specs.Ordering.{nat_cmp, is_eq, ordering_reverse}
 use Rattle.std.specs.Cmp.Lexicographic.{slice_cmp}
 use Rattle.std.specs.Str.{bytes_eq}
 use Rattle.std.specs.declared.cmp.Ordering.{Ordering}
@@ -62,3 +63,38 @@ stands_before q names x later less rising there =
     (let here = below_other q x less in let rest = not_before q later behind in (λ i. here i || rest i)) in
     or_none (list_any (bytes_eq q) names) ∙ ap (λ b. list_any (bytes_eq q) names || b) (sym none)
     ∙ sym (list_any-append (bytes_eq q) names (x ∷ later)) ∙ there
+
+-- ---- a name that isn't behind another
+
+pub not_below_itself : (a : List ℕ) → name_cmp a a ≡ Less → ⊥
+not_below_itself a e = let tie : name_cmp a a ≡ Equal = tied_itself nat_list_cmp_total a in absurd (cc)
+
+order_of : (q x : List ℕ) (o : Ordering) → name_cmp q x ≡ o → (name_cmp x q ≡ Less → ⊥) → bytes_eq q x ≡ false →
+    name_cmp q x ≡ Less
+order_of q x Less e not other = e
+order_of q x Equal e not other =
+    absurd (true≢false (sym (ap is_eq e) ∙ is_eq-slice_cmp q x ∙ other))
+order_of q x Greater e not other = absurd (not (nat_list_cmp_total.antisymm x q ∙ ap ordering_reverse e))
+
+-- it is before it, if it is another
+pub before_other : (q x : List ℕ) → (name_cmp x q ≡ Less → ⊥) → bytes_eq q x ≡ false → name_cmp q x ≡ Less
+before_other q x = order_of q x (name_cmp q x) refl
+
+pub not_behind : (x : List ℕ) (names : List (List ℕ)) → AllBefore x names →
+    AllByRecursion (λ n. name_cmp x n ≡ Less → ⊥) (names ++ x ∷ [])
+not_behind x [] h = (not_below_itself x, tt)
+not_behind x (n ∷ names) h = (
+  λ less. not_below_itself x (nat_list_cmp_total.trans x n x less h.0),
+  not_behind x names h.1,
+)
+
+front_to : {A : Type 0} (P : A → Type 0) (xs : List A) (x : A) (ys : List A) → AllByRecursion P (xs ++ x ∷ ys) →
+    AllByRecursion P (xs ++ x ∷ [])
+front_to P [] x ys h = (h.0, tt)
+front_to P (y ∷ xs) x ys h = (h.0, front_to P xs x ys h.1)
+
+pub front_rises : {A : Type 0} (R : A → A → Ordering) (xs : List A) (x : A) (ys : List A) →
+    IsStrictlySortedBy R (xs ++ x ∷ ys) → IsStrictlySortedBy R (xs ++ x ∷ [])
+unfolding IsStrictlySortedBy
+front_rises R [] x ys h = (tt, tt)
+front_rises R (y ∷ xs) x ys h = (front_to (λ z. R y z ≡ Less) xs x ys h.0, front_rises R xs x ys h.1)

@@ -19,7 +19,6 @@ use Rattle.reqtable_answer.specs.Asks.{specifiers_of, is_candidate, names_prerel
 use Rattle.reqtable_requirements.specs.Asks.{lines_of}
 use Rattle.reqtable_requirements.specs.LineReading.{LineRecord}
 use Rattle.reqtable_cases.specs.Lines.{marked}
-use Rattle.reqtable_cases.specs.Usable.{IsRangeOf}
 use Rattle.reqtable_table.specs.Answers.{SameLine, SamePackage, kept_marks}
 use Rattle.reqtable_table.specs.Cases.{IsCaseOf, HasItsCases}
 use Rattle.reqtable_search.specs.Told.{is_bound}
@@ -139,7 +138,6 @@ case_at a b s case set h = record {
       h.numbers ∙ sym (marked_map (λ (l : KeptLine). l.number) set.0 b)
       ∙ sym (ap (marked set.0) (numbers_same a b s)) ∙ marked_map (λ (l : KeptLine). l.number) set.0 a;
   tree = h.tree;
-  range = subst (λ asks. IsRangeOf asks case.range) (asks_same a b s set.0) h.range;
   prerelease = h.prerelease ∙ ap names_prerelease (asks_same a b s set.0);
 }
 

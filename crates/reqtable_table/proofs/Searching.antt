@@ -18,14 +18,13 @@ use Rattle.pep508_cases.proofs.Counting.{marks_total}
 use Rattle.pep508_cases.proofs.Marks.{marks_is}
 use Rattle.reqtable_answer.specs.Asks.{names_prerelease}
 use Rattle.reqtable_cases.specs.Lines.{marked}
-use Rattle.reqtable_cases.specs.Usable.{IsRangeOf}
 use Rattle.reqtable_table.specs.declared.table.Case.{Case}
 use Rattle.reqtable_table.specs.declared.table.Package.{Package}
 use Rattle.reqtable_table.specs.declared.kept.TableLine.{TableLine}
 use Rattle.reqtable_table.specs.Answers.{kept_marks}
 use Rattle.reqtable_table.specs.Cases.{IsCaseOf}
 use Rattle.reqtable_table.specs.Casing.{case_record, HaveMarks}
-use Rattle.reqtable_table.specs.Choosing.{case_asks, AreApplying, IsCaseFor}
+use Rattle.reqtable_table.specs.Choosing.{AreApplying, IsCaseFor}
 use Rattle.reqtable_table.specs.Kept.{KeptLine, KeptCase, kept_front}
 use Rattle.reqtable_table.specs.KeptLines.{line_record, package_record}
 use Rattle.reqtable_table.specs.Numbers.{numbers_cmp}
@@ -133,7 +132,6 @@ sorted sets h k d low within =
 record IsSetOf (lines : List KeptLine) (case : KeptCase) (set : Marks) : Type 0 where
   numbers : case.numbers ≡ map (λ (l : KeptLine). l.number) (marked set lines)
   long : length set ≡ length lines
-  range : IsRangeOf (map kept_front (marked set lines)) case.range
   prerelease : case.prerelease ≡ names_prerelease (map kept_front (marked set lines))
 
 sets_are : (lines : List KeptLine) (cases : List KeptCase) (sets : List (Marks × Tree)) → AllZip (IsCaseOf lines) cases sets →
@@ -142,7 +140,7 @@ sets_are lines [] [] h long = tt
 sets_are lines [] (set ∷ sets) h long = absurd h
 sets_are lines (case ∷ cases) [] h long = absurd h
 sets_are lines (case ∷ cases) (set ∷ sets) h long = (
-  record { numbers = h.0.numbers; long = long.0; range = h.0.range; prerelease = h.0.prerelease },
+  record { numbers = h.0.numbers; long = long.0; prerelease = h.0.prerelease },
   sets_are lines cases sets h.1 long.1,
 )
 
@@ -259,12 +257,12 @@ module _ (kept : Package) (marks : Marks) (stands : HasItsLines (package_record 
 
   pub found_case : (place : ℕ) → place < length cases →
       ((d : Case) → numbers_cmp (get_or cases place d).lines.items numbers_at ≡ Equal) →
-      (other : Case) → IsCaseFor (case_asks marks lines) (get_or cases place other)
+      (other : Case) → IsCaseFor marks lines (get_or cases place other)
   found_case place within equal other =
       let is = zip_at (IsSetOf lines) case_record cases sets place other [] are within in
       let same = marked_equal (get_or sets place []) marks (sym (order_at place other within) ∙ equal other) in
-      subst (λ m. IsCaseFor (map kept_front (marked m lines)) (get_or cases place other)) same
-      (record { range = is.range; prerelease = is.prerelease })
+      subst (λ m. IsCaseFor m lines (get_or cases place other)) same
+      (record { numbers = is.numbers; prerelease = is.prerelease })
 
   pub found_numbers : (place : ℕ) → place < length cases →
       ((d : Case) → numbers_cmp (get_or cases place d).lines.items numbers_at ≡ Equal) → (other : KeptCase) →

@@ -95,7 +95,7 @@ unbound_takes asks candidate usable read free said no_local =
 
 -- ---- exactness where the flags allow
 
-none_long : {A : Type 0} (xs : List A) → length xs ≡ 0 → xs ≡ []
+pub none_long : {A : Type 0} (xs : List A) → length xs ≡ 0 → xs ≡ []
 none_long [] e = refl
 none_long (x ∷ xs) e = absurd (omega arith)
 

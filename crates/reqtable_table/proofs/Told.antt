@@ -36,7 +36,7 @@ use Rattle.reqtable_table.proofs.Same.{numbers_same}
 use Rattle.reqtable_table.proofs.Searching.{numbers_by_marks, marked_equal}
 
 no_case : KeptCase
-no_case = record { numbers = []; tree = always; range = None; prerelease = false }
+no_case = record { numbers = []; tree = always; prerelease = false }
 
 abbrev number : KeptLine → ℕ
 number line = line.number

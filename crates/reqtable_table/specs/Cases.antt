@@ -1,5 +1,5 @@
 -- The cases of a table, and the results of building one.
-use Rattle.std.specs.Prelude.{◌≡◌, ℕ, List, map, Option, Result, Ok, Err}
+use Rattle.std.specs.Prelude.{◌≡◌, ◌≤◌, ℕ, List, map, Option, Result, Ok, Err}
 use Rattle.std.specs.List.{AllZip, AllByRecursion}
 use Rattle.std.specs.Option.{option_map}
 use Rattle.std.specs.Str.{bytes_eq}
@@ -10,16 +10,15 @@ use Rattle.pep508_cases.specs.Cases.{Marks, marks_of, AreCases}
 use Rattle.reqtable_answer.specs.Asks.{names_prerelease}
 use Rattle.reqtable_requirements.specs.LineReading.{LineRecord}
 use Rattle.reqtable_cases.specs.Lines.{marked, line_marks, numbers_of, asked_by, HasTooMany, IsFirstTooMany}
-use Rattle.reqtable_cases.specs.Usable.{IsRangeOf}
+use Rattle.reqtable_table.specs.InAll.{cases_in_all, HasMoreInAll, HasTooManyInAll}
 use Rattle.reqtable_table.specs.declared.table.TableError.{TableError}
-use Rattle.reqtable_table.specs.declared.table.TableError.TheVariants.{TooManyCases, Memory}
+use Rattle.reqtable_table.specs.declared.table.TableError.TheVariants.{TooManyCases, TooManyCasesInAll, Memory}
 use Rattle.reqtable_table.specs.Kept.{KeptLine, KeptCase, KeptPackage, KeepsAll, kept_front}
 
 -- the case of a set of lines, with the set's tree
 pub record IsCaseOf (lines : List KeptLine) (case : KeptCase) (set : Marks × Tree) : Type 0 where
   pub numbers : case.numbers ≡ map (λ line. line.number) (marked set.0 lines)
   pub tree : case.tree ≡ set.1
-  pub range : IsRangeOf (map kept_front (marked set.0 lines)) case.range
   pub prerelease : case.prerelease ≡ names_prerelease (map kept_front (marked set.0 lines))
 
 -- a package has the cases of its lines, whose markers are trees of these nodes
@@ -33,7 +32,6 @@ pub record HasItsCases (nodes : List NodeRecord) (kept : KeptPackage) : Type 0 w
 pub record IsCaseOfLines (lines : List LineRecord) (case : KeptCase) (set : Marks × Tree) : Type 0 where
   pub numbers : case.numbers ≡ numbers_of set.0 lines
   pub tree : case.tree ≡ set.1
-  pub range : IsRangeOf (asked_by set.0 lines) case.range
   pub prerelease : case.prerelease ≡ names_prerelease (asked_by set.0 lines)
 
 -- the cases of a text's lines
@@ -51,7 +49,6 @@ pub record IsRenumbered (line other : LineRecord) : Type 0 where
 -- a case is another one, of lines with new numbers
 pub record SameCase (case other : KeptCase) : Type 0 where
   pub tree : case.tree ≡ other.tree
-  pub range : case.range ≡ other.range
   pub prerelease : case.prerelease ≡ other.prerelease
 
 -- the cases under a name
@@ -66,4 +63,23 @@ Builds limit nodes said (Ok table) =
     KeepsAll nodes table said × AllByRecursion (HasItsCases nodes) table
     × ((name : List ℕ) → HasTooMany limit said name → ⊥)
 Builds limit nodes said (Err (TooManyCases name)) = IsFirstTooMany limit said name
+Builds limit nodes said (Err TooManyCasesInAll) = ⊥
 Builds limit nodes said (Err Memory) = Unit {0}
+
+-- the number of cases of all packages
+abbrev pub table_cases : List KeptPackage → ℕ
+table_cases table = cases_in_all (map (λ p. p.cases) table)
+
+-- the result of building a table of lines with at most `in_all` cases together: it does; or the first package
+-- by name has more cases than the limit, and with no more than the limit of its cases there are no more than
+-- `in_all` up to it; or there are more up to some package, and none before it has more than the limit; or out
+-- of memory
+abbrev pub BuildsWithin : ℕ → ℕ → List NodeRecord → List LineRecord → Result (List KeptPackage) TableError
+    → Type 0
+BuildsWithin limit in_all nodes said (Ok table) =
+    Builds limit nodes said (Ok table) × (table_cases table ≤ in_all)
+    × ((last : List ℕ) → HasMoreInAll limit in_all said last → ⊥)
+BuildsWithin limit in_all nodes said (Err (TooManyCases name)) =
+    IsFirstTooMany limit said name × (HasMoreInAll limit in_all said name → ⊥)
+BuildsWithin limit in_all nodes said (Err TooManyCasesInAll) = HasTooManyInAll limit in_all said
+BuildsWithin limit in_all nodes said (Err Memory) = Unit {0}

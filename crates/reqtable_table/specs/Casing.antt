@@ -6,7 +6,6 @@ use Rattle.pep508_requirement_text.specs.FrontReading.{Front}
 use Rattle.pep508_cases.specs.Cases.{Marks}
 use Rattle.reqtable_answer.specs.Asks.{names_prerelease}
 use Rattle.reqtable_cases.specs.Lines.{marked}
-use Rattle.reqtable_cases.specs.Usable.{IsRangeOf}
 use Rattle.reqtable_groups.specs.declared.given.Given.{Given}
 use Rattle.reqtable_table.specs.declared.table.Case.{Case}
 use Rattle.reqtable_table.specs.Kept.{KeptCase, kept_source}
@@ -23,7 +22,6 @@ abbrev pub case_record : Case → KeptCase
 case_record case = record {
   numbers = case.lines.items;
   tree = case.tree;
-  range = case.range;
   prerelease = case.pre;
 }
 
@@ -35,5 +33,4 @@ HaveMarks count set = length set.0 ≡ count
 pub record IsCaseOfGiven (lines : List Given) (case : KeptCase) (set : Marks × Tree) : Type 0 where
   pub numbers : case.numbers ≡ map (λ line. line.number) (marked set.0 lines)
   pub tree : case.tree ≡ set.1
-  pub range : IsRangeOf (map given_front (marked set.0 lines)) case.range
   pub prerelease : case.prerelease ≡ names_prerelease (map given_front (marked set.0 lines))

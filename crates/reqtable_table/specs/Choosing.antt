@@ -42,10 +42,10 @@ pub record AreApplying (marks : Marks) (kept : KeptPackage) : Type 0 where
   pub has : HasItsCases nodes kept
   pub are : marks ≡ kept_marks nodes valuation kept.lines
 
--- a case's range and flag are those of the requirements
-pub record IsCaseFor (asks : List Front) (case : Case) : Type 0 where
-  pub range : IsRangeOf asks case.range
-  pub prerelease : case.pre ≡ names_prerelease asks
+-- a case is that of the marked lines: it has their numbers, and its flag is that of what they require
+pub record IsCaseFor (marks : Marks) (lines : List KeptLine) (case : Case) : Type 0 where
+  pub numbers : case.lines.items ≡ map (λ line. line.number) (marked marks lines)
+  pub prerelease : case.pre ≡ names_prerelease (case_asks marks lines)
 
 -- a test of lines with these results computes this predicate
 abbrev pub TestsBy : (Bor TableLine → Bool → Type 0) → (TableLine → Bool) → Type 0

@@ -1,12 +1,10 @@
 -- What a table keeps of a package, and of which lines.
-use Rattle.std.specs.Prelude.{◌≡◌, ℕ, Bool, true, false, List, [], map, flat_map, Option, if◌then◌else◌}
+use Rattle.std.specs.Prelude.{◌≡◌, ℕ, Bool, true, false, List, [], map, flat_map, if◌then◌else◌}
 use Rattle.std.specs.List.{list_any, AllZip}
 use Rattle.std.specs.List.Sorted.{IsStrictlySortedBy}
 use Rattle.std.specs.Ordering.{nat_cmp}
 use Rattle.std.specs.Cmp.Lexicographic.{slice_cmp}
 use Rattle.std.specs.Str.{bytes_eq}
-use Rattle.version_ranges.specs.Point.{Point}
-use Rattle.pep440_version.specs.Record.{VersionRecord}
 use Rattle.pep440_specifier.specs.Matching.{SpecifierRecord}
 use Rattle.pep440_specifier_list.specs.Lists.{CountedRecord, IsInOrder}
 use Rattle.pep508_tree.specs.Tree.{Tree}
@@ -34,7 +32,6 @@ pub record KeptLine : Type 0 where
 pub record KeptCase : Type 0 where
   pub numbers : List ℕ
   pub tree : Tree
-  pub range : Option (List (Point VersionRecord))
   pub prerelease : Bool
 
 pub record KeptPackage : Type 0 where

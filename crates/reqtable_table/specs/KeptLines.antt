@@ -1,5 +1,6 @@
 -- A table's parts as records, and how a line is kept in it.
-use Rattle.std.specs.Prelude.{map}
+use Rattle.std.specs.Prelude.{List, map}
+use Rattle.std.specs.Borrow.{Bor}
 use Rattle.std.specs.List.{list_any}
 use Rattle.reqtable_groups.specs.declared.given.Given.{Given}
 use Rattle.reqtable_table.specs.declared.kept.TableLine.{TableLine}
@@ -17,6 +18,9 @@ line_record line = record {
   bounded = line.is_bounded;
   specifiers = line.specifiers;
 }
+
+abbrev pub lent_lines : List (Bor TableLine) → List KeptLine
+lent_lines lines = map (λ line. line_record line.now) lines
 
 abbrev pub package_record : Package → KeptPackage
 package_record kept = record {

@@ -1,4 +1,5 @@
 pub mod Kept
+pub mod InAll
 pub mod Casing
 pub mod Cases
 pub mod KeptLines
@@ -7,6 +8,7 @@ pub mod Counts
 pub mod Errors
 pub mod Standing
 pub mod Numbers
+pub mod Numbered
 pub mod Answers
 pub mod Choosing
 pub mod Runs

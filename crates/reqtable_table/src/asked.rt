@@ -149,7 +149,7 @@ pub(crate) fn place_of(
         (get_or (package_record kept.now).cases place other).numbers
         ≡ map (λ line. line.number) (marked marks.now (package_record kept.now).lines)) }
     ensures asked { IfOk result (λ place. (other : Case) →
-        IsCaseFor (case_asks marks.now (map line_record kept.now.lines.items))
+        IsCaseFor marks.now (map line_record kept.now.lines.items)
         (get_or kept.now.cases.items place other)) }
 {
     number(numbers, &kept.lines, marks)?;

@@ -1,23 +1,17 @@
-//! The cases of a package's lines, and what the lines of a case require.
+//! The cases of a package's lines.
 
-ghost use Rattle.std.specs.Prelude.{◌≡◌, ◌++◌, ◌&&◌, not, List, length, map, flat_map, IfOk, OnOk};
+ghost use Rattle.std.specs.Prelude.{◌≡◌, ◌&&◌, not, List, length, map, IfOk};
 ghost use Rattle.std.specs.List.{list_any, AllZip, AllByRecursion};
 ghost use Rattle.pep440_specifier_list.specs.Lists.{any_prerelease};
-ghost use Rattle.reqtable_range.specs.Together.{lent};
 ghost use Rattle.reqtable_cases.specs.Lines.{marked};
-ghost use Rattle.reqtable_cases.specs.Usable.{IsRangeOf};
 ghost use Rattle.pep508_cases.specs.Seen.{case_seen, cases_seen};
-ghost use Rattle.reqtable_table.specs.Casing.{lent_given, given_front, case_record, IsCaseOfGiven, HaveMarks};
+ghost use Rattle.reqtable_table.specs.Casing.{lent_given, case_record, IsCaseOfGiven, HaveMarks};
 
 use crate::table::Case;
-use pep440_specifier::VersionSpecifier;
-use pep440_version::Version;
 use pep508_cases::{TreeCase, TreeSet};
 use pep508_tree::MarkerTree;
-use reqtable_cases::asked_range;
 use reqtable_groups::Given;
 use std::alloc::{AllocError, Global};
-use version_ranges::Ranges;
 
 /// The marker of each line.
 pub(crate) fn markers(alloc: Global, lines: &[Given]) -> Result<Vec<MarkerTree>, AllocError>
@@ -53,12 +47,10 @@ fn case_of(alloc: Global, lines: &[Given], set: &TreeCase) -> Result<Case, Alloc
     ensures { IfOk result (λ case. IsCaseOfGiven lines.now (case_record case) (case_seen set.now)) }
 {
     let own = marked_lines(alloc, &set.set, lines)?;
-    let range = range_of(alloc, &own)?;
     let pre = any_prerelease(&own);
     Ok(Case {
         lines: numbers(alloc, &own)?,
         tree: set.tree,
-        range,
         pre,
     })
 }
@@ -99,49 +91,4 @@ fn any_prerelease(lines: &[&Given]) -> bool
     lines
         .iter()
         .any(|line| !line.is_url && line.specifiers.any_prerelease())
-}
-
-/// The intersection of the ranges of the lines' specifiers, or `None` if one of them is a URL or has no range
-/// that decides it.
-fn range_of(alloc: Global, lines: &[&Given]) -> Result<Option<Ranges<Version>>, AllocError>
-    ensures { IfOk result (IsRangeOf (map given_front (lent_given lines.now))) }
-{
-    if has_url(lines) {
-        return Ok(None);
-    }
-    let members = members_of(alloc, lines)?;
-    asked_range(alloc, &members)
-}
-
-fn has_url(lines: &[&Given]) -> bool
-    ensures { result ≡ list_any (λ line. line.now.is_url) lines.now }
-{
-    lines.iter().any(|line| line.is_url)
-}
-
-/// References to the specifiers of all these lines.
-fn members_of<'a>(
-    alloc: Global,
-    lines: &[&'a Given],
-) -> Result<Vec<&'a VersionSpecifier>, AllocError>
-    ensures { IfOk result (λ members.
-        lent members.items ≡ flat_map (λ line. line.specifiers) (lent_given lines.now)) }
-{
-    let mut members = Vec::new(alloc);
-    for line in lines {
-        lend(&mut members, line.specifiers.as_slice())?;
-    }
-    Ok(members)
-}
-
-fn lend<'a>(
-    members: &mut Vec<&'a VersionSpecifier>,
-    more: &'a [VersionSpecifier],
-) -> Result<(), AllocError>
-    ensures { OnOk result (lent members.new.items ≡ lent members.old.items ++ more.now) }
-{
-    for member in more {
-        members.push(member)?;
-    }
-    Ok(())
 }

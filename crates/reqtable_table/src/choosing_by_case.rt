@@ -7,11 +7,11 @@ ghost use Rattle.std.specs.Option.{option_map};
 ghost use Rattle.pep440_range.specs.Agreement.{IsSaid};
 ghost use Rattle.reqtable_candidates.specs.Ordered.{placed_seen};
 ghost use Rattle.reqtable_answer.specs.Admission.{Admits, AnswersBy};
-ghost use Rattle.reqtable_answer.specs.Asks.{specifiers_of, ask_takes, may_be_taken};
+ghost use Rattle.reqtable_answer.specs.Asks.{specifiers_of, ask_takes, may_be_taken, names_prerelease};
 ghost use Rattle.reqtable_cases.specs.Lines.{marked};
-ghost use Rattle.reqtable_cases.specs.Usable.{members_asked};
+ghost use Rattle.reqtable_cases.specs.Usable.{members_asked, IsRangeOf};
 ghost use Rattle.reqtable_table.specs.Answers.{most_tests, SameLine};
-ghost use Rattle.reqtable_table.specs.Choosing.{case_asks, tests_at, AskedMore, IsCaseFor, Tells, TestsBy};
+ghost use Rattle.reqtable_table.specs.Choosing.{case_asks, tests_at, AskedMore, Tells, TestsBy};
 ghost use Rattle.reqtable_table.specs.Counts.{tests_of};
 ghost use Rattle.reqtable_table.specs.Kept.{kept_front};
 ghost use Rattle.reqtable_table.specs.KeptLines.{line_record};
@@ -19,7 +19,6 @@ ghost use Rattle.reqtable_table.specs.Standing.{HasItsFlags, IsOfTexts};
 ghost use Rattle.reqtable_table.specs.declared.kept.TableLine.{TableLine};
 
 use crate::kept::TableLine;
-use crate::table::Case;
 use pep440_version::Version;
 use reqtable_answer::Admission;
 use reqtable_search::Run;
@@ -35,13 +34,15 @@ pub(crate) fn chosen<F: Fn(&Version, bool) -> bool>(
     alloc: Global,
     lines: &mut [TableLine],
     marks: &[bool],
-    case: &Case,
+    range: &Option<Ranges<Version>>,
+    pre: bool,
     own: &Run<'_, '_>,
     admission: &Admission<F>,
 ) -> Result<Option<usize>, AllocError>
     requires callable { F.IsAlwaysCallable admission.now }
     requires marks { length marks.now ≡ length lines.old }
-    requires asked { IsCaseFor (case_asks marks.now (map line_record lines.old)) case.now }
+    requires range { IsRangeOf (case_asks marks.now (map line_record lines.old)) range.now }
+    requires flag { pre ≡ names_prerelease (case_asks marks.now (map line_record lines.old)) }
     requires flags { AllByRecursion HasItsFlags (map line_record lines.old) }
     requires read { AllByRecursion IsOfTexts (map line_record lines.old) }
     requires said { AllByRecursion (λ c. IsSaid c.1.version) (map placed_seen own.now) }
@@ -60,20 +61,12 @@ pub(crate) fn chosen<F: Fn(&Version, bool) -> bool>(
     while at < own.len() {
         let placed = own.at(at);
         let version = &placed.candidate.version;
-        match takes(
-            alloc,
-            lines,
-            marks,
-            &case.range,
-            bounded,
-            version,
-            &mut first,
-        ) {
+        match takes(alloc, lines, marks, range, bounded, version, &mut first) {
             Ok(taken) => {
-                if taken && admission.admits(version, case.pre) {
+                if taken && admission.admits(version, pre) {
                     return Ok(Some(placed.place));
                 }
-                at = own.next(at, &case.range, bounded);
+                at = own.next(at, range, bounded);
             }
             Err(error) => return Err(error),
         }

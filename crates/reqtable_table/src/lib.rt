@@ -2,9 +2,11 @@
 #![tactic(auto)]
 
 mod asked;
+mod case_range;
 mod casing;
 mod choosing_by_case;
 mod kept;
+mod room;
 mod row;
 mod runs;
 mod table;

@@ -4,6 +4,8 @@ ghost use Rattle.std.specs.Prelude.{◌≡◌, ◌≤◌, ◌<◌, ◌+◌, ℕ,
 ghost use Rattle.std.specs.Prelude.{length, map, get_or, option_map, None, All, IfOk, OnOk, IfSome};
 ghost use Rattle.std.specs.Option.{option_map_or};
 ghost use Rattle.std.specs.List.{AllZip, AllByRecursion};
+ghost use Rattle.std.specs.List.Sorted.{IsStrictlySortedBy};
+ghost use Rattle.std.specs.Ordering.{nat_cmp};
 ghost use Rattle.pep440_range.specs.Agreement.{IsSaid};
 ghost use Rattle.reqtable_candidates.specs.Ordered.{placed_seen};
 ghost use Rattle.reqtable_answer.specs.Admission.{Admits, AnswersBy};
@@ -24,6 +26,7 @@ ghost use Rattle.reqtable_table.specs.Runs.{AreOrdered, AreRunsOf, IsTold, AreTo
 ghost use Rattle.reqtable_table.specs.Standing.{HasItsFlags, IsOfTexts, HasItsLines};
 
 use crate::asked::{extras_of, mark, place_of};
+use crate::case_range::range_at;
 use crate::choosing_by_case::{any_marked, chosen};
 use crate::kept::TableLine;
 use crate::runs::Told;
@@ -210,7 +213,7 @@ fn outcome_in<F: Fn(&Version, bool) -> bool>(
     requires within { place < length kept.old.cases.items }
     requires numbers { (other : KeptCase) → (get_or (package_record kept.old).cases place other).numbers
         ≡ map (λ line. line.number) (marked marks.now (package_record kept.old).lines) }
-    requires asked { (other : Case) → IsCaseFor (case_asks marks.now (map line_record kept.old.lines.items))
+    requires asked { (other : Case) → IsCaseFor marks.now (map line_record kept.old.lines.items)
         (get_or kept.old.cases.items place other) }
     requires said { AllByRecursion (λ c. IsSaid c.1.version) (map placed_seen own.now) }
     requires told { IsTold (F.post admission.now) (package_record kept.old) (own_record own.now told.old) }
@@ -249,7 +252,7 @@ fn decided<F: Fn(&Version, bool) -> bool>(
     requires within { place < length kept.old.cases.items }
     requires numbers { (other : KeptCase) → (get_or (package_record kept.old).cases place other).numbers
         ≡ map (λ line. line.number) (marked marks.now (package_record kept.old).lines) }
-    requires asked { (other : Case) → IsCaseFor (case_asks marks.now (map line_record kept.old.lines.items))
+    requires asked { (other : Case) → IsCaseFor marks.now (map line_record kept.old.lines.items)
         (get_or kept.old.cases.items place other) }
     requires said { AllByRecursion (λ c. IsSaid c.1.version) (map placed_seen own.now) }
     requires told { IsTold (F.post admission.now) (package_record kept.old) (own_record own.now told.old) }
@@ -285,7 +288,8 @@ fn outcome<F: Fn(&Version, bool) -> bool>(
 ) -> Result<Outcome, AllocError>
     requires callable { F.IsAlwaysCallable admission.now }
     requires marks { length marks.now ≡ length lines.old }
-    requires asked { IsCaseFor (case_asks marks.now (map line_record lines.old)) case.now }
+    requires rising { IsStrictlySortedBy nat_cmp (map (λ line. line.number) (map line_record lines.old)) }
+    requires asked { IsCaseFor marks.now (map line_record lines.old) case.now }
     requires flags { AllByRecursion HasItsFlags (map line_record lines.old) }
     requires read { AllByRecursion IsOfTexts (map line_record lines.old) }
     requires said { AllByRecursion (λ c. IsSaid c.1.version) (map placed_seen own.now) }
@@ -301,7 +305,11 @@ fn outcome<F: Fn(&Version, bool) -> bool>(
     if any_marked(lines, marks, |line: &TableLine| line.is_url) {
         return Ok(Outcome::Direct);
     }
-    match chosen(alloc, lines, marks, case, own, admission) {
+    if own.len() == 0 {
+        return Ok(Outcome::Nothing);
+    }
+    let range = range_at(alloc, lines, &case.lines)?;
+    match chosen(alloc, lines, marks, &range, case.pre, own, admission) {
         Ok(Some(place)) => Ok(Outcome::Taken(place)),
         Ok(None) => Ok(Outcome::Nothing),
         Err(error) => Err(error),

@@ -2,10 +2,10 @@
 //!
 //! A table consumes the requirements and keeps no second copy: the lines are moved out, sorted by name, and
 //! cut into packages. What a package has to keep (`HasItsCases`) speaks of the interner's nodes as they
-//! are, and lasts while nodes are added. A case names its lines by their numbers; its range is made of
-//! their specifiers before these are wrapped in counting lists, and whether one of them has a pre-release
-//! is stored with the case. `gate/lent.py` holds the fields of a table, its packages, lines and cases
-//! against a list, so that one more copy is seen.
+//! are, and lasts while nodes are added. A case names its lines by their numbers, and whether one of their
+//! specifiers has a pre-release is stored with it. Its range is made when the case is asked (`range`), since
+//! most cases of many lines never are. `gate/lent.py` holds the fields of a table, its packages, lines and
+//! cases against a list, so that one more copy is seen.
 
 ghost use Rattle.std.specs.Prelude.{◌≡◌, ◌≤◌, ◌+◌, ◌*◌, List, length, map, IfOk, IfErr, OnOk};
 ghost use Rattle.std.specs.List.{AllZip, AllByRecursion};
@@ -16,8 +16,9 @@ ghost use Rattle.pep508_cases.specs.Last.{IsLast};
 ghost use Rattle.reqtable_requirements.specs.Asks.{AreOfNodes};
 ghost use Rattle.reqtable_requirements.specs.LineReading.{LineRecord};
 ghost use Rattle.reqtable_requirements.specs.Requirements.{StandsFor};
-ghost use Rattle.reqtable_table.specs.Building.{AreOfTrees, IsPackageOf, IsRefusal, IsFirstRefusal};
-ghost use Rattle.reqtable_table.specs.Cases.{Builds, HasItsCases, cases_under};
+ghost use Rattle.reqtable_table.specs.Building.{most_cases, AreOfTrees, IsPackageOf, IsWithin, IsRefusal};
+ghost use Rattle.reqtable_table.specs.Building.{IsFirstRefusal, BuildsBy};
+ghost use Rattle.reqtable_table.specs.Cases.{Builds, BuildsWithin, HasItsCases, cases_under, table_cases};
 ghost use Rattle.reqtable_table.specs.Casing.{case_record};
 ghost use Rattle.reqtable_table.specs.Counts.{up_to_64_bits, tests_of, all_tests, table_tests};
 ghost use Rattle.reqtable_groups.specs.Given.{lines_in};
@@ -27,8 +28,8 @@ ghost use Rattle.reqtable_table.specs.Standing.{IsTable};
 
 use crate::casing::{cases_of, markers};
 use crate::kept::{TableLine, kept_lines};
+use crate::room::Room;
 use pep440_specifier::laws::a_read_specifier_is_built;
-use pep440_version::Version;
 use pep508_cases::{CasesError, LastCases};
 use pep508_name::PackageName;
 use pep508_tree::{Interner, MarkerTree};
@@ -39,7 +40,6 @@ use std::alloc::{AllocError, AllocFailed, Global};
 use std::error::Error;
 use std::fmt;
 use std::marker::Model;
-use version_ranges::Ranges;
 
 /// A set of a package's lines which all apply under some valuation of markers, while the package's other
 /// lines don't.
@@ -50,9 +50,6 @@ pub struct Case {
     /// A tree of the interner that the table was built with, which holds exactly where just these lines
     /// apply.
     pub tree: MarkerTree,
-    /// The intersection of the ranges of the lines' specifiers. `None` if a line has a URL, `===`, or `<` or
-    /// `>` with a post-release, or if a number of a range can't be raised.
-    pub range: Option<Ranges<Version>>,
     /// Whether a specifier of these lines names a pre-release or developmental release (PEP 440, "Handling of
     /// pre-releases").
     pub pre: bool,
@@ -71,6 +68,8 @@ pub(crate) struct Package {
 pub enum TableError {
     /// The first package, by the bytes of its name, that has more cases than the limit.
     TooManyCases { package: PackageName },
+    /// All packages together have more cases than their limit.
+    TooManyCasesInAll,
     /// Memory ran out.
     Memory,
 }
@@ -104,6 +103,7 @@ impl fmt::Display for TableError {
     fn fmt<W: fmt::Write>(&self, f: &mut fmt::Formatter<W>) -> fmt::Result {
         match self {
             TableError::TooManyCases { package } => write!(f, "{package}: too many cases"),
+            TableError::TooManyCasesInAll => write!(f, "too many cases in all"),
             TableError::Memory => write!(f, "out of memory"),
         }
     }
@@ -132,9 +132,9 @@ impl Table {
     ///
     /// The cases of each package are found by one diagram of its lines' markers (`tree_cases`), or are those
     /// of the package before it by name where its lines have the same markers in the same order. n lines of a
-    /// package need at most `2 * n * limit` conjunctions. In addition the lines are sorted by name, and the
-    /// range of each case of n specifiers needs O(n log n) comparisons of versions. The table keeps what it
-    /// needs of the requirements, without a second copy.
+    /// package need at most `2 * n * limit` conjunctions. In addition the lines are sorted by name, and each
+    /// case has the numbers of its lines. No case has a range yet: that is made when the case is asked. The
+    /// table keeps what it needs of the requirements, without a second copy.
     ///
     /// # Errors
     ///
@@ -156,16 +156,44 @@ impl Table {
         ensures counts { interner.new.conjunctions
             ≤ interner.old.conjunctions + 2 * (limit * length requirements) }
     {
-        a_read_specifier_is_built();
-        let groups = grouped(alloc, requirements.into_lines())?;
-        let mut slots = Slots::new(alloc);
-        match packages_of(alloc, interner, groups, limit, &mut slots) {
-            Ok(packages) => Ok(Table {
-                packages,
-                slots: slots.len(),
-            }),
-            Err(error) => Err(error),
-        }
+        built(alloc, requirements, interner, Room { limit, left: None })
+    }
+
+    /// The table of a text's requirements, as `build` makes it, with no more than `in_all` cases of all packages
+    /// together.
+    ///
+    /// Packages are taken by name, and one is refused once it has more cases than both bounds leave, so that no
+    /// more than `in_all` are ever kept, whatever `limit` is. The cost is that of `build`.
+    ///
+    /// # Errors
+    ///
+    /// The error of the first package, by the bytes of its name, that has more cases than it may have.
+    /// `TableError::TooManyCases` if it has more than `limit`, and `limit` cases of it and all cases of the
+    /// packages before it are at most `in_all`. `TableError::TooManyCasesInAll` otherwise: its cases and those
+    /// of the packages before it are more than `in_all`. Where both bounds are passed at one package, that is
+    /// so if those before it leave fewer than `limit` cases. `TableError::Memory` when memory runs out.
+    pub fn build_within(
+        alloc: Global,
+        requirements: Requirements,
+        interner: &mut Interner,
+        limit: u64,
+        in_all: u64,
+    ) -> Result<Table, TableError>
+        requires trees { AreOfNodes interner.old.nodes requirements }
+        ensures built { (vars : Variables) (said : List LineRecord) →
+            AllZip (StandsFor vars interner.old.nodes) requirements said →
+            BuildsWithin limit in_all interner.new.nodes said result }
+        ensures cases { IfOk result (AllByRecursion (HasItsCases interner.new.nodes)) }
+        ensures unasked { IfOk result (λ table. all_tests table ≡ 0) }
+        ensures keeps { Extends interner.old.nodes interner.new.nodes }
+        ensures counts { interner.new.conjunctions
+            ≤ interner.old.conjunctions + 2 * (limit * length requirements) }
+    {
+        let room = Room {
+            limit,
+            left: Some(in_all),
+        };
+        built(alloc, requirements, interner, room)
     }
 
     /// The cases of a package, ordered so that at the first line in which two differ the one that has it
@@ -197,6 +225,35 @@ impl Table {
     }
 }
 
+/// The table of a text's requirements, with no more cases than there may be.
+fn built(
+    alloc: Global,
+    requirements: Requirements,
+    interner: &mut Interner,
+    room: Room,
+) -> Result<Table, TableError>
+    requires trees { AreOfNodes interner.old.nodes requirements }
+    ensures built { (vars : Variables) (said : List LineRecord) →
+        AllZip (StandsFor vars interner.old.nodes) requirements said →
+        BuildsBy room.limit room.left interner.new.nodes said result }
+    ensures cases { IfOk result (AllByRecursion (HasItsCases interner.new.nodes)) }
+    ensures unasked { IfOk result (λ table. all_tests table ≡ 0) }
+    ensures keeps { Extends interner.old.nodes interner.new.nodes }
+    ensures counts { interner.new.conjunctions
+        ≤ interner.old.conjunctions + 2 * (room.limit * length requirements) }
+{
+    a_read_specifier_is_built();
+    let groups = grouped(alloc, requirements.into_lines())?;
+    let mut slots = Slots::new(alloc);
+    match packages_of(alloc, interner, groups, room, &mut slots) {
+        Ok(packages) => Ok(Table {
+            packages,
+            slots: slots.len(),
+        }),
+        Err(error) => Err(error),
+    }
+}
+
 fn packages_tests(packages: &[Package]) -> u64
     ensures { result ≡ table_tests (map package_record packages.now) }
 {
@@ -218,27 +275,32 @@ fn lines_tests(tests: u64, lines: &[TableLine]) -> u64
     tests
 }
 
-/// The packages of the groups, up to the first that has more cases than the limit.
+/// The packages of the groups, up to the first that has more cases than it may have.
 fn packages_of(
     alloc: Global,
     interner: &mut Interner,
     groups: Vec<Group>,
-    limit: u64,
+    room: Room,
     slots: &mut Slots,
 ) -> Result<Vec<Package>, TableError>
     requires { AllByRecursion (AreOfTrees interner.old.nodes) groups.items }
-    ensures made { IfOk result (λ made. AllZip (IsPackageOf limit interner.new.nodes) groups.items
+    ensures made { IfOk result (λ made. AllZip (IsPackageOf room.limit interner.new.nodes) groups.items
         (map package_record made.items)) }
-    ensures refused { IfErr result (IsFirstRefusal limit interner.old.nodes groups.items) }
+    ensures within { IfOk result (λ made. IsWithin room.left (table_cases (map package_record made.items))) }
+    ensures refused { IfErr result (IsFirstRefusal room.limit room.left interner.new.nodes groups.items) }
     ensures keeps { Extends interner.old.nodes interner.new.nodes }
     ensures counts { interner.new.conjunctions
-        ≤ interner.old.conjunctions + 2 * (length (lines_in groups.items) * limit) }
+        ≤ interner.old.conjunctions + 2 * (length (lines_in groups.items) * room.limit) }
 {
     let mut packages = Vec::with_capacity(alloc, groups.len())?;
     let mut last = LastCases::new(alloc);
+    let mut left = room;
     for group in groups {
-        match package_of(alloc, interner, group, limit, slots, &mut last) {
-            Ok(package) => packages.push(package)?,
+        match package_of(alloc, interner, group, left, slots, &mut last) {
+            Ok(package) => {
+                left = left.after(&package.cases);
+                packages.push(package)?
+            }
             Err(error) => return Err(error),
         }
     }
@@ -250,24 +312,25 @@ fn package_of(
     alloc: Global,
     interner: &mut Interner,
     group: Group,
-    limit: u64,
+    room: Room,
     slots: &mut Slots,
     last: &mut LastCases,
 ) -> Result<Package, TableError>
     requires trees { AreOfTrees interner.old.nodes group }
     requires last { IsLast interner.old.nodes last.old }
-    ensures made { IfOk result (λ made. IsPackageOf limit interner.new.nodes group (package_record made)) }
-    ensures refused { IfErr result (IsRefusal limit interner.old.nodes group) }
+    ensures made { IfOk result (λ made. IsPackageOf (most_cases room.limit room.left) interner.new.nodes group
+        (package_record made)) }
+    ensures refused { IfErr result (IsRefusal room.limit room.left interner.old.nodes group) }
     ensures last { IsLast interner.new.nodes last.new }
     ensures keeps { Extends interner.old.nodes interner.new.nodes }
     ensures counts { interner.new.conjunctions
-        ≤ interner.old.conjunctions + 2 * (length group.lines.items * limit) }
+        ≤ interner.old.conjunctions + 2 * (length group.lines.items * room.limit) }
 {
     let Group { name, lines } = group;
     let trees = markers(alloc, &lines)?;
-    match last.find(alloc, interner, trees, limit) {
+    match last.find(alloc, interner, trees, room.most()) {
         Ok(()) => (),
-        Err(CasesError::TooMany) => return Err(TableError::TooManyCases { package: name }),
+        Err(CasesError::TooMany) => return Err(room.refusal(name)),
         Err(CasesError::Memory) => return Err(TableError::Memory),
     }
     let cases = cases_of(alloc, &lines, last.cases())?;

@@ -81,13 +81,13 @@ impl Table {
     ///
     /// Evaluates each marker once, however many lines have it or its negation, and finds a package's case in
     /// as many steps as the logarithm of its cases. The outcome of a case is decided once, from the highest
-    /// version down to the candidate that is selected. The case's range decides candidates without a local
-    /// part that are no post-releases, and post-releases too if no line of the case has `<` or `>`. Those of
-    /// them that lie between two of its intervals are skipped together, in as many steps as the logarithms of
-    /// the number of intervals and of the package's candidates; each one inside an interval is admitted or
-    /// not. The specifiers are tested for all other candidates, or for all candidates if the case has no
-    /// range: line by line, up to the first line that rejects the candidate, beginning with the one that
-    /// rejected the last candidate tested.
+    /// version down to the candidate that is selected. For this the case's range is made, if the package has
+    /// candidates (`range`). It decides candidates without a local part that are no post-releases, and
+    /// post-releases too if no line of the case has `<` or `>`. Those of them that lie between two of its
+    /// intervals are skipped together, in as many steps as the logarithms of the number of intervals and of
+    /// the package's candidates; each one inside an interval is admitted or not. The specifiers are tested
+    /// for all other candidates, or for all candidates if the case has no range: line by line, up to the
+    /// first line that rejects the candidate, beginning with the one that rejected the last candidate tested.
     ///
     /// # Errors
     ///

@@ -1,11 +1,13 @@
 -- The cases under a name are those of the lines of the text.
-use Rattle.std.proofs.Common.{◌≡◌, ◌∙◌, ◌&&◌, ◌||◌, ℕ, Bool, true, false, cond, not, List, [], ◌∷◌, map, refl}
-use Rattle.std.proofs.Common.{sym, ap, subst, Option, Some, None, inl, inr}
+use Rattle.std.proofs.Common.{◌≡◌, ◌∙◌, ◌&&◌, ◌||◌, ℕ, Bool, true, false, cond, not, List, [], ◌∷◌, map, filter, refl}
+use Rattle.std.proofs.Common.{sym, ap, subst, Option, Some, None, inl, inr, Less}
 use Rattle.std.proofs.lemmas.Bool.{cases_Bool}
 use Rattle.std.proofs.lemmas.List.Folds.{list_all-append, list_all-map}
 use Rattle.std.specs.Prelude.{find}
 use Rattle.std.specs.Option.{option_map}
 use Rattle.std.specs.List.{list_any, list_all, AllZip, AllByRecursion}
+use Rattle.std.specs.List.Sorted.{IsStrictlySortedBy}
+use Rattle.std.specs.Ordering.{nat_cmp}
 use Rattle.std.specs.Str.{bytes_eq}
 use Rattle.version_ranges.specs.Point.{Point}
 use Rattle.pep440_version.specs.Record.{VersionRecord}
@@ -15,17 +17,25 @@ use Rattle.pep508_tree.specs.Tree.{Tree}
 use Rattle.pep508_tree.specs.Meaning.{NodeRecord}
 use Rattle.pep508_requirement_text.specs.FrontReading.{Front}
 use Rattle.pep508_cases.specs.Cases.{Marks, AreCases}
-use Rattle.reqtable_answer.specs.Asks.{specifiers_of, has_url}
+use Rattle.reqtable_answer.specs.Asks.{specifiers_of, has_url, is_of}
 use Rattle.reqtable_answer.proofs.Tests.{any_zip, same_bytes}
 use Rattle.reqtable_requirements.specs.Asks.{lines_of}
 use Rattle.reqtable_requirements.specs.LineReading.{LineRecord}
 use Rattle.reqtable_cases.specs.Lines.{marked, numbers_of, asked_by, is_named}
 use Rattle.reqtable_cases.specs.Usable.{members_asked, is_ranged, is_usable, points_of, IsRangeOf}
-use Rattle.reqtable_table.specs.Kept.{KeptLine, KeptCase, KeptPackage, Keeps, KeepsAll, names_in, kept_front}
+use Rattle.reqtable_table.specs.Kept.{KeptLine, KeptCase, KeptPackage, Keeps, KeepsAll, names_in, kept_under, kept_front}
 use Rattle.reqtable_table.specs.Cases.{IsCaseOf, HasItsCases, IsCaseOfLines, AreCasesOf, cases_under}
+use Rattle.reqtable_table.specs.Numbered.{lines_at, asks_at}
+use Rattle.reqtable_table.proofs.Numbered.{lines_marked}
 use Rattle.reqtable_table.proofs.RowsOfLines.{AsksAlike, front_kept, say_the_same, own_lines, IsKept}
 use Rattle.reqtable_table.proofs.RowsOfLines.{each_kept}
 use Rattle.reqtable_table.proofs.Said.{marks_said}
+
+abbrev number_of : LineRecord → ℕ
+number_of line = line.number
+
+abbrev pub NumbersRise : List LineRecord → Type 0
+NumbersRise lines = IsStrictlySortedBy nat_cmp (map (λ (line : LineRecord). line.number) lines)
 
 -- ---- asks that are alike have one range
 
@@ -41,13 +51,13 @@ members_all test (ask ∷ asks) (other ∷ others) h =
     ∙ (λ i. here i && rest i)
     ∙ sym (list_all-append test (specifiers_of other.source) (members_asked others))
 
-same_usable : (asks others : List Front) → AllZip AsksAlike asks others → is_usable asks ≡ is_usable others
+pub same_usable : (asks others : List Front) → AllZip AsksAlike asks others → is_usable asks ≡ is_usable others
 same_usable asks others h =
     let urls = any_zip AsksAlike has_url has_url (λ ask other r. r.source.url) asks others h in
     let ranged = members_all is_ranged asks others h in
     (λ i. not (urls i) && ranged i)
 
-same_points : (asks others : List Front) → AllZip AsksAlike asks others → (p : Point VersionRecord) → points_of asks p ≡ points_of others p
+pub same_points : (asks others : List Front) → AllZip AsksAlike asks others → (p : Point VersionRecord) → points_of asks p ≡ points_of others p
 same_points asks others h p =
     list_all-map (λ range. range_holds range p) range_of (members_asked asks)
     ∙ members_all (λ s. range_holds (range_of s) p) asks others h
@@ -82,6 +92,64 @@ asks_alike nodes (true ∷ marks) (one ∷ kept) (line ∷ lines) h =
     (front_kept nodes one line h.0, asks_alike nodes marks kept lines h.1)
 asks_alike nodes (false ∷ marks) (one ∷ kept) (line ∷ lines) h = asks_alike nodes marks kept lines h.1
 
+-- ---- the range of a case
+
+filter_above : (test : LineRecord → Bool) (n : ℕ) (lines : List LineRecord) →
+    AllByRecursion (λ m. nat_cmp n m ≡ Less) (map number_of lines) →
+    AllByRecursion (λ m. nat_cmp n m ≡ Less) (map number_of (filter test lines))
+filter_above test n [] h = tt
+filter_above test n (line ∷ lines) h = elim (cases_Bool (test line)) [
+  | inl e ↦
+      subst (λ b. AllByRecursion (λ m. nat_cmp n m ≡ Less) (map number_of (cond b (line ∷ filter test lines) (filter test lines))))
+      (sym e) (h.0, filter_above test n lines h.1)
+  | inr e ↦
+      subst (λ b. AllByRecursion (λ m. nat_cmp n m ≡ Less) (map number_of (cond b (line ∷ filter test lines) (filter test lines))))
+      (sym e) (filter_above test n lines h.1)
+]
+
+-- lines whose numbers rise, without some
+pub filter_rises : (test : LineRecord → Bool) (lines : List LineRecord) → NumbersRise lines → NumbersRise (filter test lines)
+unfolding IsStrictlySortedBy
+filter_rises test [] h = tt
+filter_rises test (line ∷ lines) h = elim (cases_Bool (test line)) [
+  | inl e ↦
+      subst (λ b. NumbersRise (cond b (line ∷ filter test lines) (filter test lines))) (sym e)
+      (filter_above test line.number lines h.0, filter_rises test lines h.1)
+  | inr e ↦
+      subst (λ b. NumbersRise (cond b (line ∷ filter test lines) (filter test lines))) (sym e) (filter_rises test lines h.1)
+]
+
+numbers_kept : (nodes : List NodeRecord) (kept : List KeptLine) (lines : List LineRecord) → AllZip (Keeps nodes) kept lines →
+    map number_of lines ≡ map (λ (line : KeptLine). line.number) kept
+numbers_kept nodes [] [] h = refl
+numbers_kept nodes [] (line ∷ lines) h = absurd h
+numbers_kept nodes (one ∷ kept) [] h = absurd h
+numbers_kept nodes (one ∷ kept) (line ∷ lines) h =
+    let here = sym h.0.number in
+    let rest = numbers_kept nodes kept lines h.1 in
+    (λ i. here i ∷ rest i)
+
+-- what the lines with a case's numbers require is what the case's lines require
+pub asks_of_case : (nodes : List NodeRecord) (kept : List KeptLine) (lines : List LineRecord) → AllZip (Keeps nodes) kept lines →
+    NumbersRise lines → (case : KeptCase) (set : Marks × Tree) → IsCaseOfLines lines case set →
+    AllZip AsksAlike (asks_at case.numbers kept) (asked_by set.0 lines)
+asks_of_case nodes kept lines h rise case set is =
+    let own : lines_at case.numbers kept ≡ marked set.0 kept =
+    ap (λ ns. lines_at ns kept) (is.numbers ∙ sym (numbers_alike nodes set.0 kept lines h))
+    ∙ lines_marked set.0 kept (subst (IsStrictlySortedBy nat_cmp) (numbers_kept nodes kept lines h) rise) in
+    subst (λ l. AllZip AsksAlike (map kept_front l) (asked_by set.0 lines)) (sym own) (asks_alike nodes set.0 kept lines h)
+
+pub range_of_case : (nodes : List NodeRecord) (table : List KeptPackage) (said : List LineRecord) (name : List ℕ)
+    (case : KeptCase) (set : Marks × Tree) (range : Option (List (Point VersionRecord))) → KeepsAll nodes table said →
+    NumbersRise said → IsCaseOfLines (lines_of name said) case set →
+    IsRangeOf (asks_at case.numbers (kept_under name table)) range → IsRangeOf (asked_by set.0 (lines_of name said)) range
+range_of_case nodes table said name case set range keeps rise is =
+    same_range (asks_at case.numbers (kept_under name table)) (asked_by set.0 (lines_of name said)) range
+    (asks_of_case nodes (kept_under name table) (lines_of name said) (keeps.each name)
+    (filter_rises (λ line. is_of name line.front) said rise) case set is)
+
+-- ---- the cases
+
 each_case : (nodes : List NodeRecord) (kept : List KeptLine) (lines : List LineRecord) → AllZip (Keeps nodes) kept lines →
     (cases : List KeptCase) (sets : List (Marks × Tree)) → AllZip (IsCaseOf kept) cases sets → AllZip (IsCaseOfLines lines) cases sets
 each_case nodes kept lines h [] [] are = tt
@@ -91,7 +159,6 @@ each_case nodes kept lines h (case ∷ cases) (set ∷ sets) are = (
   record {
     numbers = are.0.numbers ∙ numbers_alike nodes set.0 kept lines h;
     tree = are.0.tree;
-    range = same_range (map kept_front (marked set.0 kept)) (asked_by set.0 lines) case.range (asks_alike nodes set.0 kept lines h) are.0.range;
     prerelease = are.0.prerelease
         ∙ (say_the_same (map kept_front (marked set.0 kept)) (asked_by set.0 lines) (asks_alike nodes set.0 kept lines h)).prereleases;
   },

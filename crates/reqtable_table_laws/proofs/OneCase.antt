@@ -15,7 +15,6 @@ use Rattle.reqtable_answer.specs.Asks.{names_prerelease}
 use Rattle.reqtable_requirements.specs.Asks.{applies}
 use Rattle.reqtable_requirements.specs.LineReading.{LineRecord}
 use Rattle.reqtable_cases.specs.Lines.{marked, line_marks, numbers_of, asked_by}
-use Rattle.reqtable_cases.specs.Usable.{IsRangeOf}
 use Rattle.reqtable_table.specs.Cases.{IsCaseOfLines, AreCasesOf, IsRenumbered, SameCase}
 use Rattle.reqtable_table.specs.Kept.{KeptCase}
 use Rattle.reqtable_table.proofs.Marking.{marked_map}
@@ -103,7 +102,7 @@ renumbered : List LineRecord → List KeptCase → List (Marks × Tree) → List
 renumbered others [] sets = []
 renumbered others (case ∷ cases) [] = []
 renumbered others (case ∷ cases) (set ∷ sets) =
-    record { numbers = numbers_of set.0 others; tree = case.tree; range = case.range; prerelease = case.prerelease }
+    record { numbers = numbers_of set.0 others; tree = case.tree; prerelease = case.prerelease }
     ∷ renumbered others cases sets
 
 module _ (lines others : List LineRecord) (alike : AllZip IsRenumbered lines others) where
@@ -117,7 +116,6 @@ module _ (lines others : List LineRecord) (alike : AllZip IsRenumbered lines oth
     record {
       numbers = refl;
       tree = h.0.tree;
-      range = subst (λ asks. IsRangeOf asks case.range) (asked_alike set.0 lines others alike) h.0.range;
       prerelease = h.0.prerelease ∙ ap names_prerelease (asked_alike set.0 lines others alike);
     },
     each_again cases sets h.1,
@@ -129,7 +127,7 @@ module _ (lines others : List LineRecord) (alike : AllZip IsRenumbered lines oth
   same_again [] [] h = tt
   same_again [] (set ∷ sets) h = absurd h
   same_again (case ∷ cases) [] h = absurd h
-  same_again (case ∷ cases) (set ∷ sets) h = (record { tree = refl; range = refl; prerelease = refl }, same_again cases sets h.1)
+  same_again (case ∷ cases) (set ∷ sets) h = (record { tree = refl; prerelease = refl }, same_again cases sets h.1)
 
   pub cases_again : (nodes : List NodeRecord) (cases : List KeptCase) → AreCasesOf nodes lines cases →
       (found : List KeptCase) × AreCasesOf nodes others found × AllZip SameCase cases found

@@ -2,19 +2,27 @@
 //! nothing: each one's contract is its law.
 #![tactic(auto)]
 
-ghost use Rattle.std.specs.Prelude.{◌≡◌, false, ℕ, List, length, filter, Some, None};
+ghost use Rattle.std.specs.Prelude.{◌≡◌, false, ℕ, List, length, map, filter, Option, Some, None};
 ghost use Rattle.std.specs.List.{AllZip, AllByRecursion};
+ghost use Rattle.std.specs.List.Sorted.{IsStrictlySortedBy};
+ghost use Rattle.std.specs.Ordering.{nat_cmp};
+ghost use Rattle.version_ranges.specs.Point.{Point};
+ghost use Rattle.pep440_version.specs.Record.{VersionRecord};
 ghost use Rattle.pep508_diagram.specs.Question.{Valuation};
 ghost use Rattle.pep508_tree.specs.Meaning.{NodeRecord, Extends, holds};
+ghost use Rattle.pep508_tree.specs.Tree.{Tree};
+ghost use Rattle.pep508_cases.specs.Cases.{Marks};
 ghost use Rattle.reqtable_candidates.specs.declared.candidates.Candidate.{Candidate};
 ghost use Rattle.reqtable_answer.specs.Answer.{Admits, RowRecord, IsAnswer};
 ghost use Rattle.reqtable_requirements.specs.Asks.{lines_of, asks_of};
 ghost use Rattle.reqtable_requirements.specs.LineReading.{LineRecord};
-ghost use Rattle.reqtable_cases.specs.Lines.{is_named};
+ghost use Rattle.reqtable_cases.specs.Lines.{is_named, asked_by};
+ghost use Rattle.reqtable_cases.specs.Usable.{IsRangeOf};
 ghost use Rattle.reqtable_table.specs.Answers.{AreRowsFor, SamePackage};
-ghost use Rattle.reqtable_table.specs.Cases.{HasItsCases, AreCasesOf, cases_under};
+ghost use Rattle.reqtable_table.specs.Cases.{HasItsCases, IsCaseOfLines, AreCasesOf, cases_under};
 ghost use Rattle.reqtable_table.specs.Cases.{IsRenumbered, SameCase};
-ghost use Rattle.reqtable_table.specs.Kept.{KeptCase, KeptPackage, KeepsAll};
+ghost use Rattle.reqtable_table.specs.Kept.{KeptCase, KeptPackage, KeepsAll, kept_under};
+ghost use Rattle.reqtable_table.specs.Numbered.{asks_at};
 ghost use Rattle.reqtable_table.specs.Runs.{RunsRecord, AreRunsOf, AreTold, AreUntold};
 
 use pep440_version::Version;
@@ -30,6 +38,18 @@ pub fn cases_are_those_of_the_lines()
     ensures none { (nodes : List NodeRecord) (table : List KeptPackage) (said : List LineRecord)
         (name : List ℕ) → KeepsAll nodes table said → cases_under name table ≡ None →
         is_named name said ≡ false }
+{}
+
+/// The range of the lines that have a case's numbers, of those that a table keeps of a package, is the range
+/// of what the case's lines require.
+pub fn ranges_are_those_of_the_lines()
+    ensures { (nodes : List NodeRecord) (table : List KeptPackage) (said : List LineRecord) (name : List ℕ)
+        (case : KeptCase) (set : Marks × Tree) (range : Option (List (Point VersionRecord))) →
+        KeepsAll nodes table said →
+        IsStrictlySortedBy nat_cmp (map (λ (line : LineRecord). line.number) said) →
+        IsCaseOfLines (lines_of name said) case set →
+        IsRangeOf (asks_at case.numbers (kept_under name table)) range →
+        IsRangeOf (asked_by set.0 (lines_of name said)) range }
 {}
 
 /// An environment with extras has exactly one case of each package: under a valuation the tree of one case

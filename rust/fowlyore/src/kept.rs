@@ -14,13 +14,21 @@ impl Kept {
         unsafe { self.0.load(Ordering::Acquire).as_ref() }.map(|it| &**it)
     }
 
-    /// The bytes, which are made on the first call. If several threads make them at once, the first to finish
-    /// are kept.
-    pub fn get_or_make(&self, make: impl FnOnce() -> Vec<u8>) -> &[u8] {
-        if let Some(bytes) = self.get() {
-            return bytes;
+    /// The bytes, which are made on the first call that makes them. If several threads make them at once, the
+    /// first to finish are kept.
+    pub fn get_or_try_make<E>(
+        &self,
+        make: impl FnOnce() -> Result<Vec<u8>, E>,
+    ) -> Result<&[u8], E> {
+        match self.get() {
+            Some(bytes) => Ok(bytes),
+            None => Ok(self.keep(make()?)),
         }
-        let made = Box::into_raw(Box::new(make().into_boxed_slice()));
+    }
+
+    /// These bytes, or those that are kept already.
+    fn keep(&self, bytes: Vec<u8>) -> &[u8] {
+        let made = Box::into_raw(Box::new(bytes.into_boxed_slice()));
         let put =
             self.0
                 .compare_exchange(ptr::null_mut(), made, Ordering::AcqRel, Ordering::Acquire);
@@ -36,7 +44,7 @@ impl Clone for Kept {
     fn clone(&self) -> Kept {
         let copy = Kept::default();
         if let Some(bytes) = self.get() {
-            copy.get_or_make(|| bytes.to_vec());
+            copy.keep(bytes.to_vec());
         }
         copy
     }
@@ -61,8 +69,12 @@ mod tests {
     #[test]
     fn bytes_are_made_once() {
         let kept = Kept::default();
-        assert_eq!(kept.get_or_make(|| vec![1, 2]), [1, 2]);
-        assert_eq!(kept.get_or_make(|| unreachable!()), [1, 2]);
+        assert_eq!(kept.get_or_try_make(|| Err(3)), Err(3));
+        assert_eq!(
+            kept.get_or_try_make(|| Ok::<_, ()>(vec![1, 2])),
+            Ok(&[1, 2][..])
+        );
+        assert_eq!(kept.get_or_try_make(|| Err(3)), Ok(&[1, 2][..]));
         let copy = kept.clone();
         drop(kept);
         assert_eq!(copy.get(), Some(&[1, 2][..]));
@@ -79,7 +91,7 @@ mod tests {
                         let (kept, start) = (&kept, &start);
                         scope.spawn(move || {
                             start.wait();
-                            kept.get_or_make(|| vec![it; 9]).as_ptr() as usize
+                            kept.keep(vec![it; 9]).as_ptr() as usize
                         })
                     })
                     .collect();

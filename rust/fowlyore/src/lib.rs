@@ -36,6 +36,7 @@
 #[cfg(reqs_absent)]
 mod absent;
 mod answers;
+mod bounds;
 mod elements;
 mod grammar;
 mod kept;
@@ -48,6 +49,7 @@ mod specifiers;
 mod version;
 
 pub use answers::{Conflict, Outcome, Row, Same};
+pub use bounds::{Bounded, Bounds};
 pub use lists::{
     check, check_json, check_text, conflicts, conflicts_json, conflicts_text, matrix, matrix_json,
     matrix_text, normal, normal_json, same, same_json, LIMIT,
@@ -58,10 +60,10 @@ pub use requirement::Requirement;
 pub use specifiers::VersionSpecifiers;
 pub use version::Version;
 
-/// The version number of the linked library's interface, which is 3.
+/// The version number of the linked library's interface, which is 4.
 ///
 /// ```
-/// assert_eq!(fowlyore::abi(), 3);
+/// assert_eq!(fowlyore::abi(), 4);
 /// assert!(fowlyore::is_known());
 /// ```
 #[must_use]

@@ -1,8 +1,8 @@
-//! Lists of requirements: the five commands of the program `reqs`, over texts.
+//! Lists of requirements: the five commands of the program `reqs`, over texts, within the usual bounds or others.
 
 use crate::elements::elements;
 use crate::native::{self, Format};
-use crate::{grammar, Conflict, Refused, Row, Same};
+use crate::{grammar, Bounds, Conflict, Refused, Row, Same};
 
 /// The default limit on the cases of a package.
 pub const LIMIT: u64 = 4096;
@@ -111,8 +111,8 @@ pub fn check_json(
 ///
 /// # Errors
 ///
-/// `Refused` for an extra that is not a name, for an invalid text, and for the first package by name with too
-/// many cases.
+/// `Refused` for an extra that is not a name, for an invalid text, for the first package by name with too many
+/// cases, and beyond [`Bounds::default`].
 pub fn matrix(
     requirements: &[u8],
     environments: &[u8],
@@ -120,15 +120,7 @@ pub fn matrix(
     extras: &[&str],
     limit: u64,
 ) -> Result<Vec<Vec<Row>>, Refused> {
-    let text = matrix_text(requirements, environments, candidates, extras, limit)?;
-    let each = elements(environments);
-    if let Some(texts) = grammar::environments(&text, each.len()) {
-        return Ok(texts.into_iter().map(rows_of).collect());
-    }
-    let checked = each
-        .into_iter()
-        .map(|it| check(requirements, it, candidates, extras));
-    checked.collect()
+    Bounds::default().matrix(requirements, environments, candidates, extras, limit)
 }
 
 /// What `reqs matrix` prints: for each environment a line `env` with its number, from 1, and then the rows of
@@ -144,8 +136,7 @@ pub fn matrix_text(
     extras: &[&str],
     limit: u64,
 ) -> Result<String, Refused> {
-    let lists = [requirements, environments, candidates];
-    native::matrix(lists, extras, limit, Format::Text)
+    Bounds::default().matrix_text(requirements, environments, candidates, extras, limit)
 }
 
 /// The rows of [`matrix`] as the JSON that `reqs matrix --format json` prints: an object on one line, whose
@@ -174,8 +165,7 @@ pub fn matrix_json(
     extras: &[&str],
     limit: u64,
 ) -> Result<String, Refused> {
-    let lists = [requirements, environments, candidates];
-    native::matrix(lists, extras, limit, Format::Json)
+    Bounds::default().matrix_json(requirements, environments, candidates, extras, limit)
 }
 
 fn rows_of(text: &str) -> Vec<Row> {
@@ -203,15 +193,9 @@ fn lines_of(text: &str) -> std::str::SplitTerminator<'_, char> {
 /// # Errors
 ///
 /// `Refused` for an invalid list, then for the first line that can't be compared, and then for the first
-/// package by name with more cases than `limit`, of the left list first.
+/// package by name with more cases than `limit`, of the left list first; and beyond [`Bounds::default`].
 pub fn same(left: &[u8], right: &[u8], limit: u64) -> Result<Same, Refused> {
-    let answer = native::same(left, right, limit, Format::Text)?;
-    if !answer.is_different {
-        return Ok(Same::Yes);
-    }
-    let text = answer.text();
-    let printed = text.strip_suffix('\n').unwrap_or(&text);
-    Ok(printed.parse().expect("the library prints a difference"))
+    Bounds::default().same(left, right, limit)
 }
 
 /// The answer of [`same`] as the JSON that `reqs same --format json` prints: an object on one line. Its
@@ -232,7 +216,7 @@ pub fn same(left: &[u8], right: &[u8], limit: u64) -> Result<Same, Refused> {
 ///
 /// As those of [`same`].
 pub fn same_json(left: &[u8], right: &[u8], limit: u64) -> Result<String, Refused> {
-    native::same(left, right, limit, Format::Json).map(native::Answer::text)
+    Bounds::default().same_json(left, right, limit)
 }
 
 /// The cases of packages whose lines contradict each other: no plain version, one without a local part that
@@ -251,11 +235,10 @@ pub fn same_json(left: &[u8], right: &[u8], limit: u64) -> Result<String, Refuse
 ///
 /// # Errors
 ///
-/// `Refused` for an invalid list, and then for the first package by name with more cases than `limit`.
+/// `Refused` for an invalid list, then for the first package by name with more cases than `limit`, and beyond
+/// [`Bounds::default`].
 pub fn conflicts(requirements: &[u8], limit: u64) -> Result<Vec<Conflict>, Refused> {
-    let text = conflicts_text(requirements, limit)?;
-    let conflict = |it: &str| it.parse().expect("the library prints conflicts");
-    Ok(lines_of(&text).map(conflict).collect())
+    Bounds::default().conflicts(requirements, limit)
 }
 
 /// The answer of [`conflicts`] as `reqs conflicts` prints it.
@@ -264,7 +247,7 @@ pub fn conflicts(requirements: &[u8], limit: u64) -> Result<Vec<Conflict>, Refus
 ///
 /// As those of [`conflicts`].
 pub fn conflicts_text(requirements: &[u8], limit: u64) -> Result<String, Refused> {
-    native::conflicts(requirements, limit, Format::Text)
+    Bounds::default().conflicts_text(requirements, limit)
 }
 
 /// The answer of [`conflicts`] as the JSON that `reqs conflicts --format json` prints: an object on one line,
@@ -282,7 +265,7 @@ pub fn conflicts_text(requirements: &[u8], limit: u64) -> Result<String, Refused
 ///
 /// As those of [`conflicts`].
 pub fn conflicts_json(requirements: &[u8], limit: u64) -> Result<String, Refused> {
-    native::conflicts(requirements, limit, Format::Json)
+    Bounds::default().conflicts_json(requirements, limit)
 }
 
 /// The list in its normal form, without the lines that never apply.
@@ -294,9 +277,10 @@ pub fn conflicts_json(requirements: &[u8], limit: u64) -> Result<String, Refused
 ///
 /// # Errors
 ///
-/// `Refused` for an invalid list, and then for the first line that has no normal form.
+/// `Refused` for an invalid list, then for the first line that has no normal form, and beyond
+/// [`Bounds::default`].
 pub fn normal(requirements: &[u8]) -> Result<String, Refused> {
-    native::normal(requirements, Format::Text)
+    Bounds::default().normal(requirements)
 }
 
 /// The list in its normal form as the JSON that `reqs normal --format json` prints: an object on one line,
@@ -312,5 +296,174 @@ pub fn normal(requirements: &[u8]) -> Result<String, Refused> {
 ///
 /// As those of [`normal`].
 pub fn normal_json(requirements: &[u8]) -> Result<String, Refused> {
-    native::normal(requirements, Format::Json)
+    Bounds::default().normal_json(requirements)
+}
+
+/// Calls on lists within these bounds. Each is the function of its name; beyond a bound it returns a `Refused`
+/// for which [`is_of_nodes`](Refused::is_of_nodes), [`is_of_clauses`](Refused::is_of_clauses) or
+/// [`is_of_cases`](Refused::is_of_cases) is true.
+impl Bounds {
+    /// The rows of [`matrix`] within the bounds on nodes and cases.
+    ///
+    /// # Errors
+    ///
+    /// As those of [`matrix`], beyond these bounds.
+    pub fn matrix(
+        self,
+        requirements: &[u8],
+        environments: &[u8],
+        candidates: &[u8],
+        extras: &[&str],
+        limit: u64,
+    ) -> Result<Vec<Vec<Row>>, Refused> {
+        let text = self.matrix_text(requirements, environments, candidates, extras, limit)?;
+        let each = elements(environments);
+        if let Some(texts) = grammar::environments(&text, each.len()) {
+            return Ok(texts.into_iter().map(rows_of).collect());
+        }
+        let checked = each
+            .into_iter()
+            .map(|it| check(requirements, it, candidates, extras));
+        checked.collect()
+    }
+
+    /// The text of [`matrix_text`] within the bounds on nodes and cases.
+    ///
+    /// # Errors
+    ///
+    /// As those of [`matrix`], beyond these bounds.
+    pub fn matrix_text(
+        self,
+        requirements: &[u8],
+        environments: &[u8],
+        candidates: &[u8],
+        extras: &[&str],
+        limit: u64,
+    ) -> Result<String, Refused> {
+        let lists = [requirements, environments, candidates];
+        native::matrix(lists, extras, limit, self, Format::Text)
+    }
+
+    /// The JSON of [`matrix_json`] within the bounds on nodes and cases.
+    ///
+    /// # Errors
+    ///
+    /// As those of [`matrix`], beyond these bounds.
+    pub fn matrix_json(
+        self,
+        requirements: &[u8],
+        environments: &[u8],
+        candidates: &[u8],
+        extras: &[&str],
+        limit: u64,
+    ) -> Result<String, Refused> {
+        let lists = [requirements, environments, candidates];
+        native::matrix(lists, extras, limit, self, Format::Json)
+    }
+
+    /// The answer of [`same`] within the bounds on nodes, of both lists together, on the clauses of the difference,
+    /// and on the cases of either list.
+    ///
+    /// ```
+    /// use fowlyore::{Bounds, Same, LIMIT};
+    ///
+    /// let few = Bounds { nodes: 1, ..Bounds::default() };
+    /// assert_eq!(few.same(b"foo ; os_name == 'nt'\n", b"foo ; 'nt' == os_name\n", LIMIT)?, Same::Yes);
+    /// let list = b"foo\nbar ; os_name == 'nt' or extra == 'a'\n";
+    /// let refused = few.same(b"foo\n", list, LIMIT).unwrap_err();
+    /// assert_eq!((refused.input, refused.line), (2, 2));
+    /// assert_eq!(refused.message, "right: line 2: more than 1 nodes");
+    /// assert!(refused.is_of_nodes());
+    /// # Ok::<(), fowlyore::Refused>(())
+    /// ```
+    ///
+    /// # Errors
+    ///
+    /// As those of [`same`], beyond these bounds.
+    pub fn same(self, left: &[u8], right: &[u8], limit: u64) -> Result<Same, Refused> {
+        let answer = native::same(left, right, limit, self, Format::Text)?;
+        if !answer.is_different {
+            return Ok(Same::Yes);
+        }
+        let text = answer.text();
+        let printed = text.strip_suffix('\n').unwrap_or(&text);
+        Ok(printed.parse().expect("the library prints a difference"))
+    }
+
+    /// The JSON of [`same_json`] within these bounds.
+    ///
+    /// # Errors
+    ///
+    /// As those of [`same`], beyond these bounds.
+    pub fn same_json(self, left: &[u8], right: &[u8], limit: u64) -> Result<String, Refused> {
+        native::same(left, right, limit, self, Format::Json).map(native::Answer::text)
+    }
+
+    /// The answer of [`conflicts`] within the bounds on nodes and cases.
+    ///
+    /// ```
+    /// use fowlyore::{Bounds, LIMIT};
+    ///
+    /// let list = b"foo>=2\nfoo<1 ; os_name == 'nt'\n";
+    /// let most = |cases| Bounds { cases, ..Bounds::default() }.conflicts(list, LIMIT);
+    /// assert_eq!(most(2)?.len(), 1);
+    /// let refused = most(1).unwrap_err();
+    /// assert_eq!(refused.message, "requirements: more than 1 cases in all");
+    /// assert!(refused.is_of_cases());
+    /// # Ok::<(), fowlyore::Refused>(())
+    /// ```
+    ///
+    /// # Errors
+    ///
+    /// As those of [`conflicts`], beyond these bounds.
+    pub fn conflicts(self, requirements: &[u8], limit: u64) -> Result<Vec<Conflict>, Refused> {
+        let text = self.conflicts_text(requirements, limit)?;
+        let conflict = |it: &str| it.parse().expect("the library prints conflicts");
+        Ok(lines_of(&text).map(conflict).collect())
+    }
+
+    /// The text of [`conflicts_text`] within the bounds on nodes and cases.
+    ///
+    /// # Errors
+    ///
+    /// As those of [`conflicts`], beyond these bounds.
+    pub fn conflicts_text(self, requirements: &[u8], limit: u64) -> Result<String, Refused> {
+        native::conflicts(requirements, limit, self, Format::Text)
+    }
+
+    /// The JSON of [`conflicts_json`] within the bounds on nodes and cases.
+    ///
+    /// # Errors
+    ///
+    /// As those of [`conflicts`], beyond these bounds.
+    pub fn conflicts_json(self, requirements: &[u8], limit: u64) -> Result<String, Refused> {
+        native::conflicts(requirements, limit, self, Format::Json)
+    }
+
+    /// The list in [`normal`] form within the bounds on nodes and on the clauses of each line.
+    ///
+    /// ```
+    /// use fowlyore::Bounds;
+    ///
+    /// let list = b"foo ; os_name == 'nt' or extra == 'a'\n";
+    /// let refused = Bounds { clauses: 1, ..Bounds::default() }.normal(list).unwrap_err();
+    /// assert_eq!(refused.message, "requirements: line 1: more than 1 clauses");
+    /// assert!(refused.is_of_clauses());
+    /// ```
+    ///
+    /// # Errors
+    ///
+    /// As those of [`normal`], beyond these bounds.
+    pub fn normal(self, requirements: &[u8]) -> Result<String, Refused> {
+        native::normal(requirements, self, Format::Text)
+    }
+
+    /// The JSON of [`normal_json`] within the bounds on nodes and clauses.
+    ///
+    /// # Errors
+    ///
+    /// As those of [`normal`], beyond these bounds.
+    pub fn normal_json(self, requirements: &[u8]) -> Result<String, Refused> {
+        native::normal(requirements, self, Format::Json)
+    }
 }

@@ -2,7 +2,7 @@
 
 use crate::kept::Kept;
 use crate::refused::on_one_line;
-use crate::{native, Refused, Version};
+use crate::{native, Bounded, Bounds, Refused, Version};
 use std::cmp::Ordering;
 use std::fmt;
 use std::hash::{Hash, Hasher};
@@ -21,7 +21,8 @@ const NEVER_HOLDS: u8 = b'0';
 /// The byte while the library was not called yet.
 const UNKNOWN: u8 = 0;
 /// Why a call about a marker's text isn't refused.
-const IS_MARKER: &str = "the text of a marker is read";
+const IS_FEW: &str =
+    "the text of a marker is read, and its tree has no more nodes than `Bounds::default()`";
 
 /// A marker of one line. `Default` is the one that always holds, and has no text.
 ///
@@ -34,8 +35,18 @@ const IS_MARKER: &str = "the text of a marker is read";
 /// Markers are equal exactly if they hold under the same conditions, however they are written. Their order
 /// agrees with that, and means nothing more.
 ///
-/// Reading a marker makes no print and no key. Comparing and hashing use the [`key`](MarkerTree::key), which
-/// is made on first use and kept; markers with the same text, or that always or never hold, need none.
+/// Reading a marker makes no print, no key and no decision tree, and takes time linear in its text. Comparing
+/// and hashing use the [`key`](MarkerTree::key), which is made on first use and kept; markers with the same
+/// text, or that always or never hold, need none.
+///
+/// # Bounds
+///
+/// A decision tree may have exponentially more nodes than the marker has comparisons: 30 pairs `extra == 'a01'
+/// and extra == 'b01'` joined by `or` have a billion. Calls that return a `Result` refuse a marker beyond
+/// [`Bounds::default`], and [`within`](MarkerTree::within) gives each call other bounds. Calls that return no
+/// `Result` panic beyond the default bound on nodes: comparing, hashing, `key`, `is_true`, `is_false`,
+/// `is_disjoint` and `implies`. So ask the key of a marker from elsewhere by `within` first: once it is made,
+/// comparing and hashing it don't panic.
 ///
 /// ```
 /// use fowlyore::MarkerTree;
@@ -101,7 +112,7 @@ impl MarkerTree {
     }
 
     /// The marker of a normal text, or the one that has none because it never holds.
-    fn of_normal(answer: Result<String, Refused>) -> Result<MarkerTree, Refused> {
+    pub(crate) fn of_normal(answer: Result<String, Refused>) -> Result<MarkerTree, Refused> {
         match answer {
             Ok(text) => Ok(MarkerTree {
                 // (only clauses have brackets)
@@ -157,9 +168,30 @@ impl MarkerTree {
     /// - it depends on a string with a single quote, at which the normal text would end;
     /// - it depends on a variable with a deprecated name, as `os.name`;
     /// - it has a version that is more than release numbers of epoch 0;
-    /// - it never holds.
+    /// - it never holds;
+    ///
+    /// and for one beyond `Bounds::default()`.
     pub fn normal(&self) -> Result<String, Refused> {
-        native::marker(self.readable())
+        self.within(Bounds::default()).normal()
+    }
+
+    /// The marker with bounds for the calls on it, beyond which each of them returns a `Refused`.
+    ///
+    /// ```
+    /// use fowlyore::{Bounds, MarkerTree};
+    ///
+    /// let marker: MarkerTree = "os_name == 'nt' and extra == 'a'".parse()?;
+    /// let two = Bounds { nodes: 2, ..Bounds::default() };
+    /// assert!(marker.within(Bounds::NONE).implies(&"extra == 'a'".parse()?)?);
+    /// assert!(marker.within(two).implies(&"extra == 'a'".parse()?).unwrap_err().is_of_nodes());
+    /// # Ok::<(), fowlyore::Refused>(())
+    /// ```
+    #[must_use]
+    pub fn within(&self, bounds: Bounds) -> Bounded<'_> {
+        Bounded {
+            marker: self,
+            bounds,
+        }
     }
 
     /// Bytes that are equal exactly if markers are equal, and in whose order markers that sometimes hold are
@@ -174,10 +206,13 @@ impl MarkerTree {
     /// assert_ne!(marker.key(), "os_name == 'nt'".parse::<MarkerTree>()?.key());
     /// # Ok::<(), fowlyore::Refused>(())
     /// ```
+    ///
+    /// # Panics
+    ///
+    /// If the tree has more nodes than `Bounds::default()` ([`within`](MarkerTree::within) returns that).
     #[must_use]
     pub fn key(&self) -> &[u8] {
-        let make = || native::marker_key(self.readable()).expect(IS_MARKER);
-        self.key.get_or_make(make)
+        self.key_of(Bounds::default().nodes).expect(IS_FEW)
     }
 
     /// Whether it holds under every condition, and so in every environment with any extras.
@@ -191,6 +226,10 @@ impl MarkerTree {
     /// assert_eq!("foo".parse::<Requirement>()?.marker, always);
     /// # Ok::<(), fowlyore::Refused>(())
     /// ```
+    ///
+    /// # Panics
+    ///
+    /// If the tree has more nodes than `Bounds::default()` ([`within`](MarkerTree::within) returns that).
     #[must_use]
     pub fn is_true(&self) -> bool {
         self.truth() == ALWAYS_HOLDS
@@ -205,6 +244,10 @@ impl MarkerTree {
     /// assert!(!"os_name == 'nt'".parse::<MarkerTree>()?.is_false());
     /// # Ok::<(), fowlyore::Refused>(())
     /// ```
+    ///
+    /// # Panics
+    ///
+    /// If the tree has more nodes than `Bounds::default()` ([`within`](MarkerTree::within) returns that).
     #[must_use]
     pub fn is_false(&self) -> bool {
         self.truth() == NEVER_HOLDS
@@ -220,9 +263,14 @@ impl MarkerTree {
     /// assert!(!old.is_disjoint(&"os_name == 'nt'".parse()?));
     /// # Ok::<(), fowlyore::Refused>(())
     /// ```
+    ///
+    /// # Panics
+    ///
+    /// If both trees have more nodes than `Bounds::default()` ([`within`](MarkerTree::within) returns that).
     #[must_use]
     pub fn is_disjoint(&self, other: &MarkerTree) -> bool {
-        native::markers_disjoint(self.readable(), other.readable()).expect(IS_MARKER)
+        let bounded = self.within(Bounds::default());
+        bounded.is_disjoint(other).expect(IS_FEW)
     }
 
     /// Whether the other marker holds under each condition under which this one does, and so in each such
@@ -237,9 +285,13 @@ impl MarkerTree {
     /// assert!(!windows.implies(&new));
     /// # Ok::<(), fowlyore::Refused>(())
     /// ```
+    ///
+    /// # Panics
+    ///
+    /// If both trees have more nodes than `Bounds::default()` ([`within`](MarkerTree::within) returns that).
     #[must_use]
     pub fn implies(&self, other: &MarkerTree) -> bool {
-        native::marker_implies(self.readable(), other.readable()).expect(IS_MARKER)
+        self.within(Bounds::default()).implies(other).expect(IS_FEW)
     }
 
     /// The conjunction: a marker that holds where both do. Its text is the two texts with `and` between them,
@@ -305,9 +357,10 @@ impl MarkerTree {
     ///
     /// # Errors
     ///
-    /// `Refused` if the negation has no [`normal`](MarkerTree::normal) text, except if it never holds.
+    /// `Refused` if the negation has no [`normal`](MarkerTree::normal) text, except if it never holds, and
+    /// beyond `Bounds::default()`.
     pub fn negate(&self) -> Result<MarkerTree, Refused> {
-        MarkerTree::of_normal(native::marker_negated(self.readable()))
+        self.within(Bounds::default()).negate()
     }
 
     /// A marker that holds as this one does in each environment whose `python_full_version` is at least
@@ -329,15 +382,15 @@ impl MarkerTree {
     ///
     /// # Errors
     ///
-    /// `Refused` if it has no [`normal`](MarkerTree::normal) text, except if it never holds.
+    /// `Refused` if it has no [`normal`](MarkerTree::normal) text, except if it never holds, and beyond
+    /// `Bounds::default()`.
     pub fn simplify_python_versions(
         &self,
         lower: Option<&Version>,
         upper: Option<&Version>,
     ) -> Result<MarkerTree, Refused> {
-        let (lower, upper) = (bound(lower), bound(upper));
-        let simple = native::marker_simplify_python(self.readable(), lower, upper);
-        MarkerTree::of_normal(simple)
+        let bounded = self.within(Bounds::default());
+        bounded.simplify_python_versions(lower, upper)
     }
 
     /// The marker under the assumption that these extras are present, so that it doesn't test them.
@@ -354,14 +407,15 @@ impl MarkerTree {
     ///
     /// # Errors
     ///
-    /// `Refused` for an extra that is not a name, and for a marker without a [`normal`](MarkerTree::normal)
-    /// text, except if it never holds.
+    /// `Refused` for an extra that is not a name, for a marker without a [`normal`](MarkerTree::normal) text,
+    /// except if it never holds, and beyond `Bounds::default()`.
     pub fn simplify_extras(&self, extras: &[&str]) -> Result<MarkerTree, Refused> {
-        MarkerTree::of_normal(native::marker_simplify_extras(self.readable(), extras))
+        self.within(Bounds::default()).simplify_extras(extras)
     }
 
-    /// Whether it holds in an environment, which is JSON as for `reqs check`, with extras. A marker that
-    /// always holds does so whatever the environment and the extras are, even if they are invalid.
+    /// Whether it holds in an environment, which is JSON as for `reqs check`, with extras. Makes no decision
+    /// tree. A marker that always holds does so whatever the environment and the extras are, even if they are
+    /// invalid (where that isn't found out within `Bounds::default()` it is refused for them).
     ///
     /// ```
     /// use fowlyore::{MarkerTree, Requirement};
@@ -391,13 +445,13 @@ impl MarkerTree {
         }
         match native::markers_hold(&self.text, environment, extras) {
             Ok(mark) => Ok(mark == "1"),
-            Err(_) if self.is_true() => Ok(true),
+            Err(_) if self.is_known_true() => Ok(true),
             Err(refused) => Err(refused),
         }
     }
 
     /// A text of this meaning that the library reads.
-    fn readable(&self) -> &str {
+    pub(crate) fn readable(&self) -> &str {
         if self.text.is_empty() {
             ALWAYS
         } else {
@@ -406,16 +460,41 @@ impl MarkerTree {
     }
 
     fn truth(&self) -> u8 {
+        self.truth_within(Bounds::default().nodes).expect(IS_FEW)
+    }
+
+    /// When it holds, or that its tree has more nodes.
+    fn truth_within(&self, nodes: usize) -> Result<u8, Refused> {
         if self.text.is_empty() {
-            return ALWAYS_HOLDS;
+            return Ok(ALWAYS_HOLDS);
         }
         let known = self.truth.load(MemoryOrdering::Relaxed);
         if known != UNKNOWN {
-            return known;
+            return Ok(known);
         }
-        let truth = native::marker_truth(&self.text).expect(IS_MARKER);
+        let truth = native::marker_truth(&self.text, nodes)?;
         self.truth.store(truth, MemoryOrdering::Relaxed);
-        truth
+        Ok(truth)
+    }
+
+    pub(crate) fn is_always(&self, nodes: usize) -> Result<bool, Refused> {
+        Ok(self.truth_within(nodes)? == ALWAYS_HOLDS)
+    }
+
+    pub(crate) fn is_never(&self, nodes: usize) -> Result<bool, Refused> {
+        Ok(self.truth_within(nodes)? == NEVER_HOLDS)
+    }
+
+    /// The key, which is kept, with when it holds.
+    pub(crate) fn key_of(&self, nodes: usize) -> Result<&[u8], Refused> {
+        self.truth_within(nodes)?;
+        let make = || native::marker_key(self.readable(), nodes);
+        self.key.get_or_try_make(make)
+    }
+
+    /// Whether it is found within `Bounds::default()` that it always holds.
+    fn is_known_true(&self) -> bool {
+        matches!(self.is_always(Bounds::default().nodes), Ok(true))
     }
 
     /// What markers are compared by: all markers that always hold are equal, as are all that never do.
@@ -427,9 +506,10 @@ impl MarkerTree {
     }
 
     /// Whether it may be a comparison that means nothing, as `'a' == 'b'`: such a marker always holds, but
-    /// within another text it is ignored by `or` too. A marker that was joined here means something.
+    /// within another text it is ignored by `or` too. A marker that was joined here means something, and so
+    /// does one whose tree has too many nodes.
     fn is_left_out(&self) -> bool {
-        self.joined.is_none() && self.is_true()
+        self.joined.is_none() && self.is_known_true()
     }
 
     /// The joined texts, or the joined normal texts if the brackets of the others are nested too deep.
@@ -443,14 +523,13 @@ impl MarkerTree {
     fn chained(&self, by: Connective, other: &MarkerTree) -> Result<MarkerTree, Refused> {
         let text = format!("{} {} {}", self.piece(by), by.as_str(), other.piece(by));
         let brackets = self.brackets_in(by).max(other.brackets_in(by));
-        let truth = match brackets {
-            0..=MOST_BRACKETS => UNKNOWN,
-            _ => native::marker_truth(&text)?,
-        };
+        if brackets > MOST_BRACKETS {
+            native::marker_check(&text)?;
+        }
         Ok(MarkerTree {
             joined: Some(by),
             brackets: brackets.min(MOST_BRACKETS),
-            ..MarkerTree::given(&text, truth)
+            ..MarkerTree::given(&text, UNKNOWN)
         })
     }
 
@@ -476,11 +555,6 @@ impl MarkerTree {
     fn brackets_in(&self, by: Connective) -> usize {
         self.brackets + usize::from(self.joined != Some(by))
     }
-}
-
-/// The text of a bound, which is empty for no bound.
-fn bound(version: Option<&Version>) -> &str {
-    version.map_or("", Version::as_str)
 }
 
 impl Connective {
@@ -509,8 +583,8 @@ impl FromStr for MarkerTree {
 
     fn from_str(text: &str) -> Result<MarkerTree, Refused> {
         on_one_line(text)?;
-        let truth = native::marker_truth(text)?;
-        Ok(MarkerTree::given(text.trim(), truth))
+        native::marker_check(text)?;
+        Ok(MarkerTree::given(text.trim(), UNKNOWN))
     }
 }
 

@@ -1,6 +1,6 @@
 //! The C functions of `include/reqs.h`: texts are passed as slices, and a text or a refusal is returned.
 
-use crate::Refused;
+use crate::{Bounds, Refused};
 use std::alloc::{handle_alloc_error, Layout};
 
 /// How a call ended: `reqs_reply` of `reqs.h`.
@@ -14,7 +14,7 @@ pub(crate) struct Reply {
     len: usize,
 }
 
-const ABI: u32 = 3;
+const ABI: u32 = 4;
 const DIFFERENT: u32 = 1;
 const REFUSED: u32 = 2;
 const MEMORY: u32 = 3;
@@ -57,16 +57,20 @@ extern "C" {
     fn reqs_matrix(
         requirements: *const u8, requirements_len: usize, environments: *const u8, environments_len: usize,
         candidates: *const u8, candidates_len: usize, extras: *const u8, extras_len: usize,
-        limit: u64, out: *mut u8, out_len: usize,
+        limit: u64, nodes: usize, cases: u64, out: *mut u8, out_len: usize,
     ) -> Reply;
     fn reqs_same(
         left: *const u8, left_len: usize, right: *const u8, right_len: usize,
-        limit: u64, out: *mut u8, out_len: usize,
+        limit: u64, nodes: usize, clauses: usize, cases: u64, out: *mut u8, out_len: usize,
     ) -> Reply;
     fn reqs_conflicts(
-        requirements: *const u8, requirements_len: usize, limit: u64, out: *mut u8, out_len: usize,
+        requirements: *const u8, requirements_len: usize, limit: u64, nodes: usize, cases: u64,
+        out: *mut u8, out_len: usize,
     ) -> Reply;
-    fn reqs_normal(requirements: *const u8, requirements_len: usize, out: *mut u8, out_len: usize) -> Reply;
+    fn reqs_normal(
+        requirements: *const u8, requirements_len: usize, nodes: usize, clauses: usize,
+        out: *mut u8, out_len: usize,
+    ) -> Reply;
     fn reqs_check_json(
         requirements: *const u8, requirements_len: usize, environment: *const u8, environment_len: usize,
         candidates: *const u8, candidates_len: usize, extras: *const u8, extras_len: usize,
@@ -75,17 +79,19 @@ extern "C" {
     fn reqs_matrix_json(
         requirements: *const u8, requirements_len: usize, environments: *const u8, environments_len: usize,
         candidates: *const u8, candidates_len: usize, extras: *const u8, extras_len: usize,
-        limit: u64, out: *mut u8, out_len: usize,
+        limit: u64, nodes: usize, cases: u64, out: *mut u8, out_len: usize,
     ) -> Reply;
     fn reqs_same_json(
         left: *const u8, left_len: usize, right: *const u8, right_len: usize,
-        limit: u64, out: *mut u8, out_len: usize,
+        limit: u64, nodes: usize, clauses: usize, cases: u64, out: *mut u8, out_len: usize,
     ) -> Reply;
     fn reqs_conflicts_json(
-        requirements: *const u8, requirements_len: usize, limit: u64, out: *mut u8, out_len: usize,
+        requirements: *const u8, requirements_len: usize, limit: u64, nodes: usize, cases: u64,
+        out: *mut u8, out_len: usize,
     ) -> Reply;
     fn reqs_normal_json(
-        requirements: *const u8, requirements_len: usize, out: *mut u8, out_len: usize,
+        requirements: *const u8, requirements_len: usize, nodes: usize, clauses: usize,
+        out: *mut u8, out_len: usize,
     ) -> Reply;
     fn reqs_version(text: *const u8, text_len: usize, out: *mut u8, out_len: usize) -> Reply;
     fn reqs_version_key(text: *const u8, text_len: usize, out: *mut u8, out_len: usize) -> i64;
@@ -95,27 +101,38 @@ extern "C" {
         out: *mut u8, out_len: usize,
     ) -> Reply;
     fn reqs_requirement(text: *const u8, text_len: usize, out: *mut u8, out_len: usize) -> Reply;
-    fn reqs_marker(text: *const u8, text_len: usize, out: *mut u8, out_len: usize) -> Reply;
+    fn reqs_marker_check(text: *const u8, text_len: usize, out: *mut u8, out_len: usize) -> Reply;
+    fn reqs_marker(
+        text: *const u8, text_len: usize, nodes: usize, clauses: usize, out: *mut u8, out_len: usize,
+    ) -> Reply;
     fn reqs_markers_hold(
         markers: *const u8, markers_len: usize, environment: *const u8, environment_len: usize,
         extras: *const u8, extras_len: usize, out: *mut u8, out_len: usize,
     ) -> Reply;
-    fn reqs_marker_key(text: *const u8, text_len: usize, out: *mut u8, out_len: usize) -> Reply;
-    fn reqs_marker_truth(text: *const u8, text_len: usize, out: *mut u8, out_len: usize) -> Reply;
+    fn reqs_marker_key(
+        text: *const u8, text_len: usize, nodes: usize, out: *mut u8, out_len: usize,
+    ) -> Reply;
+    fn reqs_marker_truth(
+        text: *const u8, text_len: usize, nodes: usize, out: *mut u8, out_len: usize,
+    ) -> Reply;
     fn reqs_markers_disjoint(
-        left: *const u8, left_len: usize, right: *const u8, right_len: usize, out: *mut u8, out_len: usize,
+        left: *const u8, left_len: usize, right: *const u8, right_len: usize,
+        nodes: usize, out: *mut u8, out_len: usize,
     ) -> Reply;
     fn reqs_marker_implies(
-        left: *const u8, left_len: usize, right: *const u8, right_len: usize, out: *mut u8, out_len: usize,
+        left: *const u8, left_len: usize, right: *const u8, right_len: usize,
+        nodes: usize, out: *mut u8, out_len: usize,
     ) -> Reply;
-    fn reqs_marker_negated(text: *const u8, text_len: usize, out: *mut u8, out_len: usize) -> Reply;
+    fn reqs_marker_negated(
+        text: *const u8, text_len: usize, nodes: usize, clauses: usize, out: *mut u8, out_len: usize,
+    ) -> Reply;
     fn reqs_marker_simplify_python(
         text: *const u8, text_len: usize, lower: *const u8, lower_len: usize,
-        upper: *const u8, upper_len: usize, out: *mut u8, out_len: usize,
+        upper: *const u8, upper_len: usize, nodes: usize, clauses: usize, out: *mut u8, out_len: usize,
     ) -> Reply;
     fn reqs_marker_simplify_extras(
         text: *const u8, text_len: usize, extras: *const u8, extras_len: usize,
-        out: *mut u8, out_len: usize,
+        nodes: usize, clauses: usize, out: *mut u8, out_len: usize,
     ) -> Reply;
     fn reqs_specifiers_disjoint(
         left: *const u8, left_len: usize, right: *const u8, right_len: usize, out: *mut u8, out_len: usize,
@@ -234,13 +251,13 @@ fn extra_lines(extras: &[&str], input: u32) -> Result<String, Refused> {
 }
 
 /// The answer of a function about texts, each of which is passed as a pointer and a length, and perhaps with
-/// a limit.
+/// numbers.
 macro_rules! asked {
-    ($call:ident, $room:expr, $($text:ident),+ $(; $limit:ident)?) => {
+    ($call:ident, $room:expr, $($text:ident),+ $(; $($number:expr),+)?) => {
         // SAFETY: the pointers and lengths are those of slices that live until the call is over, and `out` is
         // a buffer of its own.
         answered($room, |out, len| unsafe {
-            $call($($text.as_ptr(), $text.len(),)+ $($limit,)? out, len)
+            $call($($text.as_ptr(), $text.len(),)+ $($($number,)+)? out, len)
         })
     };
 }
@@ -295,31 +312,38 @@ pub(crate) fn requirement(text: &str) -> Result<String, Refused> {
     asked!(reqs_requirement, ROOM + text.len(), text).map(Answer::text)
 }
 
+/// Whether a text is a marker: the refusal of one that is not.
+pub(crate) fn marker_check(text: &str) -> Result<(), Refused> {
+    asked!(reqs_marker_check, ROOM, text).map(|_| ())
+}
+
 /// The normal text of a marker.
-pub(crate) fn marker(text: &str) -> Result<String, Refused> {
-    asked!(reqs_marker, ROOM + text.len(), text).map(Answer::text)
+pub(crate) fn marker(text: &str, bounds: Bounds) -> Result<String, Refused> {
+    let Bounds { nodes, clauses, .. } = bounds;
+    asked!(reqs_marker, ROOM + text.len(), text; nodes, clauses).map(Answer::text)
 }
 
 /// The key of a marker, in which a comparison is seldom longer than eight times its text.
-pub(crate) fn marker_key(text: &str) -> Result<Vec<u8>, Refused> {
-    asked!(reqs_marker_key, ROOM + 8 * text.len(), text).map(|it| it.bytes)
+pub(crate) fn marker_key(text: &str, nodes: usize) -> Result<Vec<u8>, Refused> {
+    asked!(reqs_marker_key, ROOM + 8 * text.len(), text; nodes).map(|it| it.bytes)
 }
 
 /// When a marker holds, as the library writes it: `1` always, `0` never, `-` sometimes.
-pub(crate) fn marker_truth(text: &str) -> Result<u8, Refused> {
-    asked!(reqs_marker_truth, ROOM, text).map(|it| it.bytes[0])
+pub(crate) fn marker_truth(text: &str, nodes: usize) -> Result<u8, Refused> {
+    asked!(reqs_marker_truth, ROOM, text; nodes).map(|it| it.bytes[0])
 }
 
-pub(crate) fn markers_disjoint(left: &str, right: &str) -> Result<bool, Refused> {
-    asked!(reqs_markers_disjoint, ROOM, left, right).map(|it| it.is_yes())
+pub(crate) fn markers_disjoint(left: &str, right: &str, nodes: usize) -> Result<bool, Refused> {
+    asked!(reqs_markers_disjoint, ROOM, left, right; nodes).map(|it| it.is_yes())
 }
 
-pub(crate) fn marker_implies(left: &str, right: &str) -> Result<bool, Refused> {
-    asked!(reqs_marker_implies, ROOM, left, right).map(|it| it.is_yes())
+pub(crate) fn marker_implies(left: &str, right: &str, nodes: usize) -> Result<bool, Refused> {
+    asked!(reqs_marker_implies, ROOM, left, right; nodes).map(|it| it.is_yes())
 }
 
-pub(crate) fn marker_negated(text: &str) -> Result<String, Refused> {
-    asked!(reqs_marker_negated, ROOM + text.len(), text).map(Answer::text)
+pub(crate) fn marker_negated(text: &str, bounds: Bounds) -> Result<String, Refused> {
+    let Bounds { nodes, clauses, .. } = bounds;
+    asked!(reqs_marker_negated, ROOM + text.len(), text; nodes, clauses).map(Answer::text)
 }
 
 /// The normal text of a marker, simplified to versions of Python between the bounds; an empty text is no
@@ -328,15 +352,22 @@ pub(crate) fn marker_simplify_python(
     text: &str,
     lower: &str,
     upper: &str,
+    bounds: Bounds,
 ) -> Result<String, Refused> {
+    let Bounds { nodes, clauses, .. } = bounds;
     let room = ROOM + text.len();
-    asked!(reqs_marker_simplify_python, room, text, lower, upper).map(Answer::text)
+    asked!(reqs_marker_simplify_python, room, text, lower, upper; nodes, clauses).map(Answer::text)
 }
 
-pub(crate) fn marker_simplify_extras(text: &str, extras: &[&str]) -> Result<String, Refused> {
+pub(crate) fn marker_simplify_extras(
+    text: &str,
+    extras: &[&str],
+    bounds: Bounds,
+) -> Result<String, Refused> {
+    let Bounds { nodes, clauses, .. } = bounds;
     let extras = extra_lines(extras, EXTRAS_TO_SIMPLIFY)?;
     let room = ROOM + text.len();
-    asked!(reqs_marker_simplify_extras, room, text, extras).map(Answer::text)
+    asked!(reqs_marker_simplify_extras, room, text, extras; nodes, clauses).map(Answer::text)
 }
 
 /// Whether a text was refused as that of a marker that never holds, which has no normal text.
@@ -369,19 +400,21 @@ pub(crate) fn matrix(
     lists: [&[u8]; 3],
     extras: &[&str],
     limit: u64,
+    bounds: Bounds,
     format: Format,
 ) -> Result<String, Refused> {
     let [list, environments, candidates] = lists;
+    let Bounds { nodes, cases, .. } = bounds;
     let extras = extra_lines(extras, EXTRAS_OF_LISTS)?;
     // (an environment is an object)
     let count = environments.iter().filter(|it| **it == b'{').count();
     let room = format.room_for_rows(list, count);
     let answer = match format {
         Format::Text => {
-            asked!(reqs_matrix, room, list, environments, candidates, extras; limit)
+            asked!(reqs_matrix, room, list, environments, candidates, extras; limit, nodes, cases)
         }
         Format::Json => {
-            asked!(reqs_matrix_json, room, list, environments, candidates, extras; limit)
+            asked!(reqs_matrix_json, room, list, environments, candidates, extras; limit, nodes, cases)
         }
     };
     answer.map(Answer::text)
@@ -391,32 +424,45 @@ pub(crate) fn same(
     left: &[u8],
     right: &[u8],
     limit: u64,
+    bounds: Bounds,
     format: Format,
 ) -> Result<Answer, Refused> {
+    let Bounds {
+        nodes,
+        clauses,
+        cases,
+    } = bounds;
     match format {
-        Format::Text => asked!(reqs_same, ROOM, left, right; limit),
-        Format::Json => asked!(reqs_same_json, ROOM, left, right; limit),
+        Format::Text => asked!(reqs_same, ROOM, left, right; limit, nodes, clauses, cases),
+        Format::Json => asked!(reqs_same_json, ROOM, left, right; limit, nodes, clauses, cases),
     }
 }
 
 pub(crate) fn conflicts(
     requirements: &[u8],
     limit: u64,
+    bounds: Bounds,
     format: Format,
 ) -> Result<String, Refused> {
+    let Bounds { nodes, cases, .. } = bounds;
     let room = format.room_for_rows(requirements, 1);
     let answer = match format {
-        Format::Text => asked!(reqs_conflicts, room, requirements; limit),
-        Format::Json => asked!(reqs_conflicts_json, room, requirements; limit),
+        Format::Text => asked!(reqs_conflicts, room, requirements; limit, nodes, cases),
+        Format::Json => asked!(reqs_conflicts_json, room, requirements; limit, nodes, cases),
     };
     answer.map(Answer::text)
 }
 
-pub(crate) fn normal(requirements: &[u8], format: Format) -> Result<String, Refused> {
+pub(crate) fn normal(
+    requirements: &[u8],
+    bounds: Bounds,
+    format: Format,
+) -> Result<String, Refused> {
+    let Bounds { nodes, clauses, .. } = bounds;
     let room = format.room_for_rows(requirements, 1);
     let answer = match format {
-        Format::Text => asked!(reqs_normal, room, requirements),
-        Format::Json => asked!(reqs_normal_json, room, requirements),
+        Format::Text => asked!(reqs_normal, room, requirements; nodes, clauses),
+        Format::Json => asked!(reqs_normal_json, room, requirements; nodes, clauses),
     };
     answer.map(Answer::text)
 }
@@ -470,14 +516,15 @@ mod tests {
             .collect();
         let environments = format!("[{}]", vec![ENVIRONMENT; 40].join(","));
         let lists = [lines.as_bytes(), environments.as_bytes(), b"foo1 1\n"];
+        let usual = Bounds::default();
         let again = asked_again(|| {
-            let found = conflicts(lists[0], 4096, Format::Text).unwrap();
+            let found = conflicts(lists[0], 4096, usual, Format::Text).unwrap();
             assert_eq!(found.lines().count(), 100);
-            let rows = matrix(lists, &[], 4096, Format::Text).unwrap();
+            let rows = matrix(lists, &[], 4096, usual, Format::Text).unwrap();
             assert_eq!(rows.lines().count(), 40 * 101);
-            let found = conflicts(lists[0], 4096, Format::Json).unwrap();
+            let found = conflicts(lists[0], 4096, usual, Format::Json).unwrap();
             assert_eq!(found.matches("\"package\":").count(), 100);
-            let rows = matrix(lists, &[], 4096, Format::Json).unwrap();
+            let rows = matrix(lists, &[], 4096, usual, Format::Json).unwrap();
             assert_eq!(rows.matches("\"outcome\":").count(), 40 * 100);
         });
         assert_eq!(again, 0);
@@ -487,7 +534,7 @@ mod tests {
     fn long_texts_are_read_once() {
         let long = "a".repeat(1000);
         let again = asked_again(|| {
-            assert!(marker(&format!("os_name == '{long}'")).is_ok());
+            assert!(marker(&format!("os_name == '{long}'"), Bounds::default()).is_ok());
             assert!(requirement(&format!("foo @ https://example.org/{long}")).is_ok());
             assert!(specifiers(&format!(">=1+{long}")).is_err());
             assert!(specifiers(&format!("==1+{long}")).is_ok());
@@ -509,7 +556,7 @@ mod tests {
                 "os_name == 'nt'",
                 "python_version in '3.8 3.9 3.11'",
             ] {
-                assert!(!marker_key(text).unwrap().is_empty());
+                assert!(!marker_key(text, usize::MAX).unwrap().is_empty());
             }
         });
         assert_eq!(again, 0);
@@ -534,7 +581,8 @@ mod tests {
             for format in [Format::Text, Format::Json] {
                 let checked = check(lists_in(ENVIRONMENT), &extras, format);
                 assert_eq!(checked, Err(refused(EXTRAS_OF_LISTS)));
-                let tabled = matrix(lists_in(&environments), &extras, 4096, format);
+                let lists = lists_in(&environments);
+                let tabled = matrix(lists, &extras, 4096, Bounds::NONE, format);
                 assert_eq!(tabled, Err(refused(EXTRAS_OF_LISTS)));
             }
             let held = markers_hold("os_name == 'posix'", ENVIRONMENT, &extras);

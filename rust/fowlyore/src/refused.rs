@@ -23,6 +23,44 @@ pub struct Refused {
     pub len: usize,
 }
 
+impl Refused {
+    /// Whether markers' trees have more nodes than the call may make ([`Bounds`](crate::Bounds)).
+    #[must_use]
+    pub fn is_of_nodes(&self) -> bool {
+        self.excess() == Some("nodes")
+    }
+
+    /// Whether a marker would be printed of more clauses than the call may make ([`Bounds`](crate::Bounds)).
+    #[must_use]
+    pub fn is_of_clauses(&self) -> bool {
+        let counted = self.excess();
+        counted.map_or(false, |it| {
+            it == "clauses" || it.starts_with("clauses for ")
+        })
+    }
+
+    /// Whether the packages of a list together have more cases than the call may make
+    /// ([`Bounds`](crate::Bounds)).
+    #[must_use]
+    pub fn is_of_cases(&self) -> bool {
+        self.excess() == Some("cases in all")
+    }
+
+    /// What there is more of than a bound, as it is said after the number, behind the place in a list.
+    fn excess(&self) -> Option<&str> {
+        let said = self
+            .message
+            .rsplit(": ")
+            .next()?
+            .strip_prefix("more than ")?;
+        let (number, counted) = said.split_once(' ')?;
+        number
+            .bytes()
+            .all(|it| it.is_ascii_digit())
+            .then_some(counted)
+    }
+}
+
 impl fmt::Display for Refused {
     fn fmt(&self, f: &mut fmt::Formatter<'_>) -> fmt::Result {
         f.write_str(&self.message)

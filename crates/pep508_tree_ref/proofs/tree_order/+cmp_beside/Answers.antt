@@ -1,5 +1,4 @@
-use Rattle.std.proofs.Common.{◌∙◌, sym, ap₂, arith}
-use Rattle.pep508_tree_ref.specs.Sides.{end_cmp}
+use Rattle.std.proofs.Common.{◌∙◌, sym, arith}
 use Rattle.pep508_tree_ref.proofs.Walking.{other_out, end_decides, child_decides, next_tie, first_out}
 use Rattle.pep508_tree_ref.proofs.Walking.{both_out}
 use Rattle.pep508_tree_ref.proofs.tree_order.+cmp_beside.Goals as goal

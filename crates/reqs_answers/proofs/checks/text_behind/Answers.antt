@@ -1,8 +1,11 @@
-use Rattle.std.proofs.Common.{refl}
+use Rattle.std.proofs.Common.{◌∙◌, map, refl, ap}
 use Rattle.std.proofs.lemmas.Result.{err_from_is_err_and}
+use Rattle.reqtable_answer.specs.Rows.{row_seen}
 use Rattle.reqs_io_faults.specs.Faults.{IsPlain}
+use Rattle.reqs_json.specs.Rows.{rows_text}
 use Rattle.reqs_answers.specs.Texts.{behind_lines}
 use Rattle.reqs_io_faults.proofs.Steps.{refuses_rest}
+use Rattle.reqs_answers.proofs.Selected.{rows_as}
 use Rattle.reqs_answers.proofs.checks.text_behind.Goals as goal
 
 pub returns-in_err-environment : goal.returns-in_err-environment
@@ -11,16 +14,25 @@ returns-in_err-environment c = λ vars said stands.
     let p = err_from_is_err_and c.from_residual.result c.from_residual.ensures.1 in
     rw (p.1, p.2) (refuses_rest IsPlain _ _ _ c.in_err-environment.ensures)
 
-pub returns-in_err-candidates : goal.returns-in_err-candidates
+pub returns-in_err-selection : goal.returns-in_err-selection
 unfolding behind_lines
-returns-in_err-candidates c = λ vars said stands.
-    let p = err_from_is_err_and c.from_residual-in_err-candidates.result c.from_residual-in_err-candidates.ensures.1 in
-    rw (p.1, p.2, c.in_ok-environment.ensures) (refuses_rest IsPlain _ _ _ c.in_err-candidates.ensures)
+returns-in_err-selection c = λ vars said stands.
+    let p = err_from_is_err_and c.from_residual-in_err-selection.result c.from_residual-in_err-selection.ensures.1 in
+    rw (p.1, p.2, c.in_ok-environment.ensures) (refuses_rest IsPlain _ _ _ c.in_err-selection.ensures.answered)
 
 pub returns-in-Ok : goal.returns-in-Ok
 unfolding behind_lines
-returns-in-Ok c = λ vars said stands. record {
-  read = record { extras = c.args.extras.now; lines = said; second = c.in_ok-environment.environment; candidates = c.in_ok-candidates.candidates };
-  is_read = rw (c.in_ok-environment.ensures, c.in_ok-candidates.ensures) refl;
-  is_text = c.in-Ok.ensures vars said stands;
-}
+returns-in-Ok c = λ vars said stands.
+    let selection = c.in_ok-selection.selection in
+    let read = c.in_ok-selection.ensures.answered in
+    let is = read.2 vars said stands in
+    record {
+      read = record { extras = c.args.extras.now; lines = said; second = c.in_ok-environment.environment; candidates = read.0 };
+      is_read = rw (c.in_ok-environment.ensures, read.1) refl;
+      is_text = (
+        is.answer,
+        is.is_answer,
+        c.in-Ok.ensures ∙ ap (λ those. rows_text c.args.format those (map row_seen selection.answer.rows.items)) c.deref.ensures.value
+            ∙ rows_as selection.candidates.items read.0 c.args.format (map row_seen selection.answer.rows.items) is.answer is.are_its_rows,
+      );
+    }

@@ -1,4 +1,4 @@
-use Rattle.std.proofs.Common.{◌≡◌, ◌∙◌, ◌+◌, ◌++◌, ◌∷◌, [], List, ℕ, get_or, ap, sym, subst}
+use Rattle.std.proofs.Common.{◌∙◌, ◌+◌, ◌++◌, ◌∷◌, [], List, ℕ, ap, sym, subst}
 use Rattle.reqtable_answer.specs.Answer.{answer_text}
 use Rattle.reqtable_table.proofs.Same.{all_same, packages_on, has_cases, keeps}
 use Rattle.reqs_rows.proofs.Going.{none_known, are_known_grown}

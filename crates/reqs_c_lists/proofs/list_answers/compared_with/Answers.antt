@@ -1,15 +1,24 @@
-use Rattle.std.proofs.Common.{◌∷◌, [], ℕ, Vec, Global, Some, ap, refl}
-use Rattle.reqs_lists.specs.Comparison.{SameAnswersAs, SameRefuses}
+use Rattle.std.proofs.Common.{◌∷◌, [], ℕ, List, Vec, Global, Some, ap, refl}
+use Rattle.pep508_tree.specs.Meaning.{NodeRecord}
+use Rattle.reqs_io_faults.specs.Within.{RefusesOr}
+use Rattle.reqs_lists.specs.Comparison.{SameAnswersWithin, SamePasses, SameRefusesWithin}
 use Rattle.reqs_c_reply.specs.Endings.{ending_of}
 use Rattle.reqs_c_lists.specs.Commands.{same_names}
-use Rattle.reqs_c_lists.proofs.AtHand.{at_hand}
+use Rattle.reqs_c_lists.specs.Refusals.{IsToldAt}
+use Rattle.reqs_c_lists.proofs.AtHand.{at_hand, of_nodes}
 use Rattle.reqs_c_lists.proofs.list_answers.compared_with.Goals as goal
 
 pub returns : goal.returns
 returns c =
     let limit = c.args.limit in
+    let bounds = c.args.bounds in
     let vars = c.args.vars.now in
-    let wrote = c.same-ran.new.output in
-    at_hand (SameAnswersAs c.args.format limit vars) (SameRefuses limit vars) same_names 0 (c.args.left.now ∷ c.args.right.now ∷ [])
+    let inputs = c.args.left.now ∷ c.args.right.now ∷ [] in
+    let nodes = c.same_within-ran.new.interner.nodes in
+    let wrote = c.same_within-ran.new.output in
+    let answers = λ (nodes : List NodeRecord). SameAnswersWithin bounds nodes c.args.format limit vars in
+    let refuses = λ (nodes : List NodeRecord). RefusesOr (SamePasses bounds nodes limit vars) (SameRefusesWithin bounds limit vars) in
+    of_nodes answers refuses (IsToldAt same_names 0) inputs nodes c.are_sound.ensures (ending_of c.ended.result)
+    (at_hand (answers nodes) (refuses nodes) same_names 0 inputs
     (λ (v : Vec ℕ Global). Some v.items) c.new-text.result wrote wrote.items (ap Some c.new-text.ensures.items) refl
-    c.same-ran.result (ending_of c.ended.result) c.same-ran.ensures.runs c.ended.ensures
+    c.same_within-ran.result (ending_of c.ended.result) c.same_within-ran.ensures.runs c.ended.ensures)

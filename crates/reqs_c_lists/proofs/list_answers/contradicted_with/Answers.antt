@@ -1,15 +1,24 @@
-use Rattle.std.proofs.Common.{◌∷◌, [], ℕ, Vec, Global, Some, ap, refl}
-use Rattle.reqs_lists.specs.Contradictions.{ConflictsAnswerAs, ConflictsRefuse}
+use Rattle.std.proofs.Common.{◌∷◌, [], ℕ, List, Vec, Global, Some, ap, refl}
+use Rattle.pep508_tree.specs.Meaning.{NodeRecord}
+use Rattle.reqs_io_faults.specs.Within.{RefusesOr}
+use Rattle.reqs_lists.specs.Contradictions.{ConflictsAnswerWithin, ConflictsPass, ConflictsRefuseWithin}
 use Rattle.reqs_c_reply.specs.Endings.{ending_of}
 use Rattle.reqs_c_lists.specs.Commands.{list_names}
-use Rattle.reqs_c_lists.proofs.AtHand.{at_hand}
+use Rattle.reqs_c_lists.specs.Refusals.{IsToldAt}
+use Rattle.reqs_c_lists.proofs.AtHand.{at_hand, of_nodes}
 use Rattle.reqs_c_lists.proofs.list_answers.contradicted_with.Goals as goal
 
 pub returns : goal.returns
 returns c =
     let limit = c.args.limit in
+    let bounds = c.args.bounds in
     let vars = c.args.vars.now in
-    let wrote = c.conflicts-ran.new.output in
-    at_hand (ConflictsAnswerAs c.args.format limit vars) (ConflictsRefuse limit vars) list_names 0 (c.args.requirements.now ∷ [])
+    let inputs = c.args.requirements.now ∷ [] in
+    let nodes = c.conflicts_within-ran.new.interner.nodes in
+    let wrote = c.conflicts_within-ran.new.output in
+    let answers = λ (nodes : List NodeRecord). ConflictsAnswerWithin bounds nodes c.args.format limit vars in
+    let refuses = λ (nodes : List NodeRecord). RefusesOr (ConflictsPass bounds nodes limit vars) (ConflictsRefuseWithin bounds limit vars) in
+    of_nodes answers refuses (IsToldAt list_names 0) inputs nodes c.are_sound.ensures (ending_of c.ended.result)
+    (at_hand (answers nodes) (refuses nodes) list_names 0 inputs
     (λ (v : Vec ℕ Global). Some v.items) c.new-text.result wrote wrote.items (ap Some c.new-text.ensures.items) refl
-    c.conflicts-ran.result (ending_of c.ended.result) c.conflicts-ran.ensures.runs c.ended.ensures
+    c.conflicts_within-ran.result (ending_of c.ended.result) c.conflicts_within-ran.ensures.runs c.ended.ensures)

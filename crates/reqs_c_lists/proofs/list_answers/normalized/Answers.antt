@@ -1,14 +1,11 @@
 use Rattle.std.proofs.Common.{◌∷◌, [], subst}
 use Rattle.pep508_url.specs.Vars.{Variables}
-use Rattle.reqs_lists.specs.Normal.{NormalAnswersAs, NormalRefuses}
 use Rattle.reqs_c_reply.specs.Endings.{ending_of}
-use Rattle.reqs_c_lists.specs.Commands.{CommandEnds, list_names}
-use Rattle.reqs_c_lists.specs.Refusals.{IsToldAt}
+use Rattle.reqs_c_lists.specs.Commands.{NormalEndsWith}
 use Rattle.reqs_c_lists.proofs.list_answers.normalized.Goals as goal
 
 pub returns : goal.returns
 returns c =
     subst
-    (λ (vars : Variables). CommandEnds (NormalAnswersAs c.args.format vars) (NormalRefuses vars) (IsToldAt list_names 0)
-    (c.args.requirements.now ∷ []) (ending_of c.normalized_with.result))
+    (λ (vars : Variables). NormalEndsWith c.args.format c.args.bounds vars (c.args.requirements.now ∷ []) (ending_of c.normalized_with.result))
     c.in-Ok.ensures c.normalized_with.ensures

@@ -3,4 +3,5 @@ use Rattle.reqs_lists.proofs.normalizing.normal_of.Goals as goal
 
 pub returns-in_ok-normal_in-in-Ok : goal.returns-in_ok-normal_in-in-Ok
 returns-in_ok-normal_in-in-Ok c = λ vars said stands.
-    (refl, (string_bytes c.in-Ok.text, c.in-Ok.ensures vars said stands, c.in_ok-normal_in-in-Ok.ensures))
+    let h = c.in-Ok.ensures vars said stands in
+    (((refl, (string_bytes c.in-Ok.text, h.1, c.in_ok-normal_in-in-Ok.ensures)), h.0), tt)

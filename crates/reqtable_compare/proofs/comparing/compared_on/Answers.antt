@@ -1,6 +1,7 @@
 use Rattle.std.proofs.Common.{◌∙◌, map, sym}
 use Rattle.std.proofs.lemmas.Result.{err_from_is_err_and}
 use Rattle.reqtable_compare.proofs.Answering.{refusal_of, nodes_kept, all_have_kept, answered}
+use Rattle.reqtable_compare.proofs.Bounded.{by_bounds}
 use Rattle.reqtable_compare.proofs.Outside.{outside}
 use Rattle.reqtable_compare.proofs.Whole.{left_refused, right_refused}
 use Rattle.reqtable_compare.proofs.Kept.{lines_kept}
@@ -12,8 +13,8 @@ returns-in_err-left_table-clause-compared c vars said others h h' =
     let names = map (λ name. name.now) c.args.names.now in
     let p = err_from_is_err_and c.from_residual.result c.from_residual.ensures.1 in
     rw (p.1, p.2)
-    (left_refused c.args.limit names said others
-    (outside vars old c.args.limit c.args.left.now c.args.right.now said others names h h' c.requires.others)
+    (left_refused c.args.bounds.limit c.args.bounds.in_all names said others
+    (outside vars old c.args.bounds.limit c.args.left.now c.args.right.now said others names h h' c.requires.others)
     c.side_table.new.interner.nodes c.side_table.new.interner.nodes _
     (sym (refusal_of vars old c.args.left.now c.args.right.now said others h h') ∙ c.requires.none)
     (c.in_err-left_table.ensures.made vars said h))
@@ -30,8 +31,8 @@ returns-in_err-right_table-clause-compared c vars said others h h' =
     let names = map (λ name. name.now) c.args.names.now in
     let p = err_from_is_err_and c.from_residual-in_err-right_table.result c.from_residual-in_err-right_table.ensures.1 in
     rw (p.1, p.2)
-    (right_refused c.args.limit names said others
-    (outside vars old c.args.limit c.args.left.now c.args.right.now said others names h h' c.requires.others)
+    (right_refused c.args.bounds.limit c.args.bounds.in_all names said others
+    (outside vars old c.args.bounds.limit c.args.left.now c.args.right.now said others names h h' c.requires.others)
     c.side_table-2.new.interner.nodes c.side_table-2.new.interner.nodes _
     (sym (refusal_of vars old c.args.left.now c.args.right.now said others h h') ∙ c.requires.none)
     (c.in_ok-left_table.ensures.made vars said h).2
@@ -47,11 +48,12 @@ pub returns-clause-compared : goal.returns-clause-compared
 returns-clause-compared c vars said others h h' =
     let old = c.args.interner.now.nodes in
     let mid = c.side_table.new.interner.nodes in
-    answered vars old mid c.side_table-2.new.interner.nodes c.compared.new.interner.nodes c.args.limit
+    by_bounds c.args.bounds.limit c.args.bounds.in_all c.compared.new.interner.nodes said others c.compared.result
+    (answered vars old mid c.side_table-2.new.interner.nodes c.compared.new.interner.nodes c.args.bounds.limit
     (map (λ name. name.now) c.args.names.now) c.args.left.now c.args.right.now c.in_ok-left_table.left_table
     c.in_ok-right_table.right_table said others c.compared.result h h' c.are_read.ensures.rising
     c.are_read-2.ensures.rising c.requires.none c.requires.others c.in_ok-left_table.ensures.keeps
     c.in_ok-right_table.ensures.keeps (c.in_ok-left_table.ensures.made vars said h)
     (c.in_ok-right_table.ensures.made vars others
     (lines_kept vars old mid c.in_ok-left_table.ensures.keeps c.args.right.now others h'))
-    c.compared.ensures.compared
+    c.compared.ensures.compared)

@@ -17,7 +17,7 @@ returns c =
       extras = λ e. c.in_ok-extras.ensures.are e
           ∙ ap (list_any (λ l. list_any (bytes_eq e) l.now)) c.deref-2.ensures.value
           ∙ sym (any_mapped (list_any (bytes_eq e)) (λ l. l.now) lists) ∙ ap (list_any (list_any (bytes_eq e))) are;
-      range = c.as_ref.ensures.value;
+      range = c.in_ok-range.ensures;
       prerelease = refl;
       tree = refl;
     }

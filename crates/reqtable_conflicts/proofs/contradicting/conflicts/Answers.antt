@@ -33,7 +33,7 @@ returns-clause-found c vars said h =
     subst (λ ns. FoundFor c.in_ok-table.table (texts ns) found) (sym c.deref.ensures.value)
     (subst (λ ns. FoundFor c.in_ok-table.table (texts ns) found) c.deref-2.ensures.value c.in_ok-found.ensures) in
     all_found vars old c.packages_table.new.interner.nodes c.args.limit c.args.requirements.now said
-    c.in_ok-table.table names found h
+    c.in_ok-table.table names found h c.are_read.ensures.rising
     (doubtful_at c.args.limit c.lines.result.now c.args.requirements.now (texts c.in_ok-names.names.items) names
     c.lines.ensures (ap texts (sym c.deref.ensures.value)) c.in_ok-names.ensures)
     (c.in_ok-table.ensures.built vars said h) are

@@ -1,4 +1,4 @@
-use Rattle.std.proofs.Common.{◌≡◌, ◌++◌, length}
+use Rattle.std.proofs.Common.{◌≡◌, ◌≤◌, ◌++◌, length}
 use Rattle.std.specs.List.{AllZip}
 use Rattle.std.specs.Vec.Iter.{into_iter_items, into_iter_len}
 use Rattle.pep508_tree.specs.Meaning.{Extends}
@@ -11,5 +11,6 @@ invariant-loop-line l = record {
   counted : into_iter_len l.line-iterator ≡ length (into_iter_items l.line-iterator);
   keeps : Extends l.fn.interner.nodes l.interner.nodes;
   counts : l.interner.conjunctions ≡ l.fn.interner.conjunctions;
+  fits : length l.interner.nodes ≤ l.fn.most;
   made : AllZip (HasTree l.interner.nodes) l.made.items l.yielded;
 }

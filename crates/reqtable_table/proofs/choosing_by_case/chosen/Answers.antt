@@ -21,8 +21,8 @@ takes-requires-clause-tells g c =
     let lines = c.args.lines.now in
     let bounded = c.any_marked-bounded.result in
     let same = same_asks marks lines c.loop-at.lines c.loop-at.invariant.more.same in
-    subst (λ asks. Tells bounded c.args.case.now.range asks) (sym same)
-    (case_tells marks lines c.args.case.now.range bounded c.requires.flags c.requires.read c.requires.asked.range
+    subst (λ asks. Tells bounded c.args.range.now asks) (sym same)
+    (case_tells marks lines c.args.range.now bounded c.requires.flags c.requires.read c.requires.range
     (c.any_marked-bounded.ensures (λ line. line.is_bounded) (λ line answer h. search rules)))
 
 pub takes-requires-clause-said : goal.takes-requires-clause-said
@@ -40,8 +40,8 @@ returns-then-admits-clause-chosen g c = λ admits by.
     same_answer item.candidate.now.version marks lines c.loop-at.lines c.in-Ok.taken
     c.loop-at.invariant.more.same c.in-Ok.ensures.answer in
     let passes =
-    as_admitted admits asks (placed_seen item) c.in-Ok.taken answer c.args.case.now.pre
-    c.admits.result c.requires.asked.prerelease (c.admits.ensures admits by) c.if-taken.true ∙ c.if-admits.true in
+    as_admitted admits asks (placed_seen item) c.in-Ok.taken answer c.args.pre
+    c.admits.result c.requires.flag (c.admits.ensures admits by) c.if-taken.true ∙ c.if-admits.true in
     sym (ap (option_map (λ x. x.0))
     (find_here placed_seen (may_be_taken admits asks) c.args.own.now c.loop-at.at item
     (subst (λ n. c.loop-at.at < n) c.len.ensures c.loop-at-test.true) c.at-placed.ensures (c.loop-at.invariant.none admits by) passes))
@@ -89,7 +89,7 @@ loop-at-preserved g c =
     same_answer item.candidate.now.version marks lines c.loop-at.lines c.in-Ok.taken so_far.more.same
     c.in-Ok.ensures.answer in
     let tells =
-    case_tells marks lines c.args.case.now.range bounded c.requires.flags c.requires.read c.requires.asked.range
+    case_tells marks lines c.args.range.now bounded c.requires.flags c.requires.read c.requires.range
     (c.any_marked-bounded.ensures (λ line. line.is_bounded) (λ line answer h. search rules)) in
     record {
       more =
@@ -102,11 +102,11 @@ loop-at-preserved g c =
           c.at-placed.ensures (so_far.none admits by)
           (elim c.else-taken.branch [
             | else-taken-via-then-taken+else-admits w ↦
-                as_admitted admits asks (placed_seen item) c.in-Ok.taken answer c.args.case.now.pre
-                w.admits.result c.requires.asked.prerelease (w.admits.ensures admits by) w.if-taken.true ∙ w.if-admits.false
+                as_admitted admits asks (placed_seen item) c.in-Ok.taken answer c.args.pre
+                w.admits.result c.requires.flag (w.admits.ensures admits by) w.if-taken.true ∙ w.if-admits.false
             | else-taken-via-else-taken w ↦
                 is_refused admits asks (placed_seen item) c.in-Ok.taken answer w.if-taken.false
           ]))
-          (none_passed admits asks bounded c.args.case.now.range tells own (at + 1) c.next-at.result c.next-at.ensures.within
+          (none_passed admits asks bounded c.args.range.now tells own (at + 1) c.next-at.result c.next-at.ensures.within
           c.requires.said c.next-at.ensures.passed);
     }

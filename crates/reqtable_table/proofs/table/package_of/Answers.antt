@@ -1,4 +1,4 @@
-use Rattle.std.proofs.Common.{◌≡◌, ◌∙◌, ◌≤◌, List, map, length, refl, sym, ap, subst, arith}
+use Rattle.std.proofs.Common.{◌≡◌, ◌∙◌, ◌≤◌, ◌+◌, ◌*◌, List, map, length, refl, sym, ap, subst, arith}
 use Rattle.std.proofs.lemmas.List.{length-map}
 use Rattle.std.specs.List.{AllByRecursion, AllZip}
 use Rattle.pep508_tree.specs.Tree.{Tree}
@@ -7,7 +7,9 @@ use Rattle.pep508_cases.specs.Cases.{AreCases, marks_of}
 use Rattle.pep508_cases.specs.Seen.{case_seen, cases_seen}
 use Rattle.reqtable_groups.specs.declared.given.Given.{Given}
 use Rattle.reqtable_table.specs.Casing.{case_record, HaveMarks, IsCaseOfGiven}
+use Rattle.reqtable_table.specs.Building.{most_cases}
 use Rattle.reqtable_table.specs.KeptLines.{package_record}
+use Rattle.reqtable_table.proofs.Rooms.{most_at_most, fewer_conjunctions}
 use Rattle.reqtable_table.proofs.Packages.{given_trees, have_marks, has_its_cases, as_long}
 use Rattle.reqtable_table.proofs.table.package_of.Goals as goal
 
@@ -45,7 +47,8 @@ returns-clause-made c =
     subst (λ l. AllZip (IsCaseOfGiven l) cases sets) c.deref-2.ensures.value
     (subst (λ ss. AllZip (IsCaseOfGiven c.deref-2.result.now) cases (cases_seen ss)) c.cases.ensures c.in_ok-cases.ensures) in
     let long = as_long (IsCaseOfGiven lines) cases sets each in
-    let few : length found ≤ c.args.limit = c.in-Ok.ensures.few in
+    let few : length found ≤ most_cases c.args.room.limit c.args.room.left =
+    subst (λ n. length found ≤ n) c.most.ensures c.in-Ok.ensures.few in
     let counted = length-map found case_seen in
     record {
       name = refl;
@@ -55,3 +58,15 @@ returns-clause-made c =
           (subst (λ trees. AreCases (marks_of old trees) new sets) same c.in-Ok.ensures.cases) each;
       few = omega (arith, long, few, counted);
     }
+
+pub returns-clause-counts : goal.returns-clause-counts
+returns-clause-counts c =
+    let lines = c.args.group.lines.items in
+    let room = c.args.room in
+    let old = c.args.interner.now.conjunctions in
+    let new = c.find.new.interner.conjunctions in
+    let long : length c.in_ok-trees.trees.items ≡ length lines =
+    ap length (c.in_ok-trees.ensures ∙ ap markers c.deref.ensures.value) ∙ length-map lines (λ (line : Given). line.marker) in
+    fewer_conjunctions (length lines) (most_cases room.limit room.left) room.limit old new (most_at_most room.limit room.left)
+    (subst (λ n. new ≤ old + 2 * (length lines * n)) c.most.ensures
+    (subst (λ n. new ≤ old + 2 * (n * c.most.result)) long c.in-Ok.ensures.counts))

@@ -1,0 +1,80 @@
+//! Names with their fronts, by which a package is found.
+//!
+//! A front is the first eight bytes of a name as one number, as `reqtable_candidates` has it for sorting. A list
+//! of names with their fronts is dense: a step of a search reads one entry of it, and names only where fronts
+//! are equal and full: a name of seven bytes or fewer is its front, since no name has a byte 0. A front is a
+//! field with the fact that it is the name's, so that the contract of the comparison is that of names.
+
+ghost use Rattle.std.specs.Prelude.{◌≡◌, ◌<◌, ◌+◌, ◌*◌, ◌^◌, true};
+ghost use Rattle.pep508_name.specs.Name.{name_cmp};
+ghost use Rattle.reqtable_candidates.specs.Fronts.{first_or_none, behind_first, front_of, are_bytes};
+
+use pep508_name::PackageName;
+use std::cmp::Ordering;
+
+/// A name with its front.
+#[derive(Clone, Copy)]
+pub(crate) struct Fronted<'a> {
+    pub(crate) front: u64,
+    pub(crate) name: &'a PackageName,
+    pub(crate) ghost is_front: { front ≡ front_of name.now },
+}
+
+/// The name with its front.
+pub(crate) fn with_front(name: &PackageName) -> Fronted<'_>
+    ensures { result.name.now ≡ name.now }
+{
+    let front = front_of(name.as_str());
+    Fronted { front, name }
+}
+
+/// The order of two names. Reads them only if their fronts are equal and full.
+pub(crate) fn compare(a: &Fronted<'_>, b: &Fronted<'_>) -> Ordering
+    ensures { result ≡ name_cmp a.now.name.now b.now.name.now }
+{
+    let front = a.front.cmp(&b.front);
+    if front.is_ne() || a.front % 256 == 0 {
+        has_bytes(a.name);
+        has_bytes(b.name);
+        return front;
+    }
+    a.name.as_str().cmp(b.name.as_str())
+}
+
+/// Does nothing: its contract is that a name consists of bytes.
+#[tactic(auto, using(reqtable_candidates::proofs::Fronts::name_of_bytes))]
+fn has_bytes(name: &PackageName)
+    ensures { are_bytes name.now ≡ true }
+{
+    let _ = name.as_str();
+}
+
+/// The first eight bytes of a text as one big-endian number; missing bytes are 0.
+#[tactic(auto, unfolding(reqtable_candidates::specs::Fronts::front_of))]
+fn front_of(text: &str) -> u64
+    ensures { result ≡ front_of text.now }
+{
+    let (front, rest) = shifted(0, text.as_bytes());
+    let (front, rest) = shifted(front, rest);
+    let (front, rest) = shifted(front, rest);
+    let (front, rest) = shifted(front, rest);
+    let (front, rest) = shifted(front, rest);
+    let (front, rest) = shifted(front, rest);
+    let (front, rest) = shifted(front, rest);
+    let (front, _) = shifted(front, rest);
+    front
+}
+
+/// A number with the first of some bytes appended as its last eight bits (0 if there is none), and the bytes
+/// after it.
+fn shifted(front: u64, bytes: &[u8]) -> (u64, &[u8])
+    requires { front < 2 ^ 56 }
+    ensures front { result.0 ≡ front * 256 + first_or_none bytes.now }
+    ensures below { result.0 < (front + 1) * 256 }
+    ensures rest { result.1.now ≡ behind_first bytes.now }
+{
+    match bytes.split_first() {
+        Some((byte, rest)) => (front * 256 + *byte as u64, rest),
+        None => (front * 256, bytes),
+    }
+}

@@ -1,0 +1,97 @@
+//! A candidate is offered to its package, which keeps it if it is the best one so far.
+//!
+//! The cheap questions come first: whether the candidate is admitted and higher than the best one. Only then
+//! is it tested against the requirements: against each by itself at first, and by their range once their
+//! specifiers and the tested candidates are many.
+
+ghost use Rattle.std.specs.Prelude.{◌≡◌, IfOk, OnOk};
+ghost use Rattle.std.specs.List.{AllZip};
+ghost use Rattle.reqtable_answer.specs.Admission.{Admits, AnswersBy};
+ghost use Rattle.reqtable_answer.specs.Groups.{exceeds};
+ghost use Rattle.reqtable_streaming.specs.Packages.{AreRising, AreNamesOf, AreSound, IsSound, names_of};
+ghost use Rattle.reqtable_streaming.specs.Packages.{by_version, IsAsBefore, IsOffered, IsNext};
+
+use crate::fronts::Fronted;
+use crate::required::{Package, place_of};
+use pep440_version::Version;
+use reqtable_answer::{Admission, all_take, range_of};
+use reqtable_candidates::Candidate;
+use std::alloc::{AllocError, Global};
+
+/// Offers a candidate to its package, if that is required. `names` are those of the packages. `before` is the
+/// place of the package of the candidate before; returns that of this candidate.
+pub(crate) fn offer_to<F: Fn(&Version, bool) -> bool>(
+    alloc: Global,
+    packages: &mut Vec<Package<'_>>,
+    names: &[Fronted<'_>],
+    before: usize,
+    candidate: Candidate,
+    admission: &Admission<F>,
+) -> Result<usize, AllocError>
+    requires callable { F.IsAlwaysCallable admission.now }
+    requires rising { AreRising packages.old.items }
+    requires named { AreNamesOf packages.old.items names.now }
+    requires sound { AreSound packages.old.items }
+    ensures names { OnOk result (names_of packages.new.items ≡ names_of packages.old.items) }
+    ensures sound { OnOk result (AreSound packages.new.items) }
+    ensures offered { OnOk result ((admits : Admits) → AnswersBy (F.post admission.now) admits →
+        AllZip (IsNext admits candidate) packages.old.items packages.new.items) }
+{
+    let Some(place) = place_of(packages, names, before, &candidate.name) else {
+        return Ok(before);
+    };
+    offer(alloc, &mut packages[place], candidate, admission)?;
+    Ok(place)
+}
+
+/// Makes the candidate the package's best one, if it is admitted, higher than the best one before it, and
+/// accepted.
+fn offer<F: Fn(&Version, bool) -> bool>(
+    alloc: Global,
+    wanted: &mut Package<'_>,
+    candidate: Candidate,
+    admission: &Admission<F>,
+) -> Result<(), AllocError>
+    requires callable { F.IsAlwaysCallable admission.now }
+    requires sound { IsSound wanted.old }
+    ensures name { OnOk result (wanted.new.name ≡ wanted.old.name) }
+    ensures sound { OnOk result (IsSound wanted.new) }
+    ensures offered { OnOk result ((admits : Admits) → AnswersBy (F.post admission.now) admits →
+        IsOffered admits candidate wanted.old wanted.new) }
+{
+    if wanted.direct || !is_greater(&candidate, &wanted.best) {
+        return Ok(());
+    }
+    if !admission.admits(&candidate.version, wanted.prerelease) {
+        return Ok(());
+    }
+    prepare(alloc, wanted)?;
+    if all_take(alloc, &wanted.asks, &wanted.range, &candidate.version)? {
+        wanted.best = Some(candidate);
+    }
+    Ok(())
+}
+
+/// Whether the candidate is higher than the best one before it.
+fn is_greater(candidate: &Candidate, best: &Option<Candidate>) -> bool
+    ensures { result ≡ exceeds by_version candidate.now best.now }
+{
+    match best {
+        None => true,
+        Some(best) => candidate.version > best.version,
+    }
+}
+
+/// Counts a test of a candidate, and makes the range of the requirements where that many tests want one. The
+/// count is looked at where it doubles, so that all looks together are linear in the tests.
+fn prepare(alloc: Global, wanted: &mut Package<'_>) -> Result<(), AllocError>
+    requires { IsSound wanted.old }
+    ensures sound { OnOk result (IsSound wanted.new) }
+    ensures same { OnOk result (IsAsBefore wanted.old wanted.new) }
+{
+    wanted.tested = wanted.tested.saturating_add(1);
+    if wanted.range.is_none() && wanted.tested.is_power_of_two() {
+        wanted.range = range_of(alloc, &wanted.asks, wanted.tested)?;
+    }
+    Ok(())
+}
