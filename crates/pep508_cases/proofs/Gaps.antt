@@ -1,9 +1,10 @@
 -- Sets by their gaps: one behind the other, their order, and the places of their members.
 use Rattle.std.proofs.Common.{◌≡◌, ℕ, zero, suc, ◌+◌, ◌<◌, ◌≤◌, ◌++◌, List, [], ◌∷◌, length, true, false, cond, nat_lt}
-use Rattle.std.proofs.Common.{refl, ap, sym, ◌∙◌, arith, replicate, drop, true≢false}
+use Rattle.std.proofs.Common.{inl, inr, refl, ap, sym, ◌∙◌, arith, replicate, drop, true≢false}
+use Rattle.std.proofs.lemmas.Bool.{cases_lt}
 use Rattle.std.proofs.lemmas.List.{append_assoc, length-append, length-replicate, replicate-append-replicate}
 use Rattle.std.proofs.lemmas.Bool.Decides.{nat_tests}
-use Rattle.std.specs.Cmp.{ranks}
+use Rattle.std.specs.Cmp.{ranks, nat_cmp_is}
 use Rattle.std.specs.Ordering.{nat_cmp, ordering_then, ordering_reverse, is_eq, MatchOrdering}
 use Rattle.std.specs.declared.cmp.Ordering.{Ordering}
 use Rattle.std.specs.declared.cmp.Ordering.TheVariants.{Less, Equal, Greater}
@@ -164,7 +165,8 @@ decides Less later e = refl
 decides Equal later e = absurd (true≢false e)
 decides Greater later e = refl
 
-pub ties : (order later : Ordering) → is_eq order ≡ true → ordering_then order later ≡ later
-ties Less later e = absurd (true≢false (sym e))
-ties Equal later e = refl
-ties Greater later e = absurd (true≢false (sym e))
+pub unequal : (x y : ℕ) → (x ≡ y → ⊥) → is_eq (nat_cmp x y) ≡ false
+unequal x y apart = elim (cases_lt x y) [
+  | inl a ↦ ap is_eq (sym (nat_cmp_is x y Less a))
+  | inr a ↦ ap is_eq (sym (nat_cmp_is x y Greater (omega (arith, a, apart))))
+]

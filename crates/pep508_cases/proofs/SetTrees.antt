@@ -53,6 +53,10 @@ or_false : (b : Bool) → (b || false) ≡ b
 or_false true = refl
 or_false false = refl
 
+and_false : (b : Bool) → (b && false) ≡ false
+and_false true = refl
+and_false false = refl
+
 or_true : (b : Bool) → (b || true) ≡ true
 or_true true = refl
 or_true false = refl
@@ -98,26 +102,22 @@ module _ (old new : List NodeRecord) (x : Extends old new) (found : BTreeMap Mar
   halves true b e = absurd (true≢false e)
   halves false b e = (refl, e)
 
-  -- nothing was kept, since the tree never holds
-  pub added_none : both ≡ never → (q : Marks) (v : Valuation) →
-      holds new (tree_at found q) v ≡ (holds old (tree_at found q) v || (same_marks q set && holds old tree v))
-  added_none e q v = elim (cases_Bool (same_marks q set)) [
-    | inl same ↦
-        let one : q ≡ set = marks_is q set same in
-        let none = halves (holds old (tree_at found set) v) (holds old tree v)
-        (sym (truth v) ∙ ap (λ t. holds new t v) e ∙ never_holds new v) in
-        let here : holds old (tree_at found q) v ≡ false = ap (λ s. holds old (tree_at found s) v) one ∙ none.0 in
-        holds_kept old new x (tree_at found q) (tree_made old found q all) v ∙ here
-        ∙ sym (λ i. here i || (same i && none.1 i))
-    | inr other ↦ other_set q v other
-  ]
+  -- neither of two trees holds where both together never do
+  pub alone : IsTree old tree → both ≡ never → (v : Valuation) →
+      holds new tree v ≡ (holds old (tree_at found set) v || holds old tree v)
+  alone made e v =
+      let none = halves (holds old (tree_at found set) v) (holds old tree v)
+      (sym (truth v) ∙ ap (λ t. holds new t v) e ∙ never_holds new v) in
+      holds_kept old new x tree made v ∙ none.1 ∙ sym (λ i. none.0 i || none.1 i)
 
-  module _ (later : BTreeMap Marks Tree) (updates : Updates marks_cmp found later set (Some both)) where
+  module _ (later : BTreeMap Marks Tree)
+      (updates : (q : Marks) → get marks_cmp later q
+      ≡ cond (is_eq (marks_cmp set q)) (Some both) (get marks_cmp found q)) where
     at : (q : Marks) (b : Bool) → same_marks q set ≡ b → tree_at later q ≡ cond b both (tree_at found q)
     at q true e =
-        ap or_never (updates.0 q ∙ ap (λ b. cond b (Some both) (get marks_cmp found q)) (same_cmp set q ∙ e))
+        ap or_never (updates q ∙ ap (λ b. cond b (Some both) (get marks_cmp found q)) (same_cmp set q ∙ e))
     at q false e =
-        ap or_never (updates.0 q ∙ ap (λ b. cond b (Some both) (get marks_cmp found q)) (same_cmp set q ∙ e))
+        ap or_never (updates q ∙ ap (λ b. cond b (Some both) (get marks_cmp found q)) (same_cmp set q ∙ e))
 
     pub added : (q : Marks) (v : Valuation) →
         holds new (tree_at later q) v ≡ (holds old (tree_at found q) v || (same_marks q set && holds old tree v))
@@ -131,12 +131,50 @@ module _ (old new : List NodeRecord) (x : Extends old new) (found : BTreeMap Mar
 
     pub added_made : IsTree new both → (both ≢ never) → AllMade new later
     added_made made some q =
-        subst (λ t. IfSome t (λ tree. IsTree new tree × (tree ≢ never))) (sym (updates.0 q))
+        subst (λ t. IfSome t (λ tree. IsTree new tree × (tree ≢ never))) (sym (updates q))
         (by (is_eq (marks_cmp set q)))
       where
         by : (b : Bool) → IfSome (cond b (Some both) (get marks_cmp found q)) (λ tree. IsTree new tree × (tree ≢ never))
         by true = (made, some)
         by false = all_kept old new found x all q
+
+-- nothing is kept of a tree that never holds
+pub added_none : (nodes : List NodeRecord) (found : BTreeMap Marks Tree) (set q : Marks) (tree : Tree) (v : Valuation) →
+    tree ≡ never →
+    holds nodes (tree_at found q) v ≡ (holds nodes (tree_at found q) v || (same_marks q set && holds nodes tree v))
+added_none nodes found set q tree v e =
+    sym (ap (λ b. holds nodes (tree_at found q) v || (same_marks q set && b)) (ap (λ t. holds nodes t v) e ∙ never_holds nodes v)
+    ∙ ap (λ b. holds nodes (tree_at found q) v || b) (and_false (same_marks q set))
+    ∙ or_false (holds nodes (tree_at found q) v))
+
+-- what a map has for each set, once one has another tree
+pub renamed : (found later : BTreeMap Marks Tree) (key set : Marks) (tree : Tree) → key ≡ set →
+    Updates marks_cmp found later key (Some tree) →
+    (q : Marks) → get marks_cmp later q ≡ cond (is_eq (marks_cmp set q)) (Some tree) (get marks_cmp found q)
+renamed found later key set tree e updates q =
+    updates.0 q ∙ ap (λ s. cond (is_eq (marks_cmp s q)) (Some tree) (get marks_cmp found q)) e
+
+-- the last of two trees stays
+pub twice : (t : Bool) (tree both : Tree) (before : Option Tree) →
+    cond t (Some both) (cond t (Some tree) before) ≡ cond t (Some both) before
+twice true tree both before = refl
+twice false tree both before = refl
+
+-- a set had a tree already, which the map gave back
+pub tree_before : (old new : List NodeRecord) (found : BTreeMap Marks Tree) (key set : Marks) (other tree both : Tree)
+    (given : Option Tree) → key ≡ set → given ≡ Some other → given ≡ get marks_cmp found key →
+    ((v : Valuation) → holds new both v ≡ (holds old other v || holds old tree v)) →
+    (v : Valuation) → holds new both v ≡ (holds old (tree_at found set) v || holds old tree v)
+tree_before old new found key set other tree both given e some is truth v =
+    truth v
+    ∙ ap (λ o. holds old (or_never o) v || holds old tree v) (sym some ∙ is ∙ ap (get marks_cmp found) e)
+
+-- a set had no tree yet
+pub first_tree : (nodes : List NodeRecord) (found : BTreeMap Marks Tree) (set : Marks) (tree : Tree) (v : Valuation) →
+    None ≡ get marks_cmp found set → holds nodes tree v ≡ (holds nodes (tree_at found set) v || holds nodes tree v)
+first_tree nodes found set tree v e =
+    sym (ap (λ o. holds nodes (or_never o) v || holds nodes tree v) (sym e)
+    ∙ ap (λ b. b || holds nodes tree v) (never_holds nodes v))
 
 -- ---- leaves that were reached
 
@@ -145,10 +183,6 @@ apart a b h = grind (arith, nat_tests, h)
 
 alike : (a b : ℕ) → a ≡ b → (a == b) ≡ true
 alike a b e = grind (arith, nat_tests, e)
-
-and_false : (b : Bool) → (b && false) ≡ false
-and_false true = refl
-and_false false = refl
 
 and_true : (b : Bool) → (b && true) ≡ b
 and_true true = refl

@@ -8,7 +8,7 @@ ghost use Rattle.pep508_tree.specs.Meaning.{IsTree, Extends, holds};
 ghost use Rattle.pep508_leaf_diagram.specs.Pairing.{IsDiagram};
 ghost use Rattle.pep508_cases.specs.Cases.{Marks, marks_cmp, same_marks, marks_of, AreCases};
 ghost use Rattle.pep508_cases.specs.Seen.{cases_seen};
-ghost use Rattle.pep508_cases.specs.Marked.{IsMarked, IsRooted};
+ghost use Rattle.pep508_cases.specs.Marked.{set_at, IsMarked, IsRooted};
 ghost use Rattle.pep508_cases.specs.Collecting.{tree_at, AllMade, AreFound};
 
 use crate::cases::TreeCase;
@@ -41,22 +41,16 @@ fn either(
     Ok(neither.negate())
 }
 
-/// Returns the tree of a set, or the one that never holds.
-fn tree_in(found: &BTreeMap<TreeSet, MarkerTree>, set: &TreeSet) -> MarkerTree
-    ensures { result ≡ tree_at found.now set.now }
-{
-    match found.get(set) {
-        Some(tree) => *tree,
-        None => MarkerTree::FALSE,
-    }
-}
-
-/// Has the tree of a set hold where this one does too. A tree that never holds is not kept.
+/// Has the tree of the set at an index hold where this one does too. A tree that never holds is not kept.
+///
+/// Comparing two sets takes as long as what they have in common, so a set is looked for once, unless it has a
+/// tree already.
 fn add_tree(
     alloc: Global,
     interner: &mut Interner,
     found: &mut BTreeMap<TreeSet, MarkerTree>,
-    set: TreeSet,
+    sets: &[TreeSet],
+    leaf: usize,
     tree: MarkerTree,
 ) -> Result<(), AllocError>
     requires found { AllMade interner.old.nodes found.old }
@@ -65,16 +59,23 @@ fn add_tree(
     ensures truth { IfOk result (λ _. (q : Marks) (v : Valuation) →
         holds interner.new.nodes (tree_at found.new q) v
         ≡ (holds interner.old.nodes (tree_at found.old q) v
-        || (same_marks q set && holds interner.old.nodes tree v))) }
+        || (same_marks q (set_at sets.now leaf) && holds interner.old.nodes tree v))) }
     ensures keeps { Extends interner.old.nodes interner.new.nodes }
     ensures counts { interner.new.conjunctions ≡ interner.old.conjunctions }
 {
-    let other = tree_in(found, &set);
+    if tree.is_false() {
+        return Ok(());
+    }
+    let set = copied_set(alloc, sets, leaf)?;
+    let Some(other) = found.insert(set, tree)? else {
+        return Ok(());
+    };
     let both = either(alloc, interner, other, tree)?;
     if both.is_false() {
         return Ok(());
     }
-    found.insert(set, both)?;
+    let again = copied_set(alloc, sets, leaf)?;
+    found.insert(again, both)?;
     Ok(())
 }
 
@@ -93,9 +94,8 @@ fn found_trees(
     let trees = leaf_trees(alloc, interner, &marked.diagram)?;
     let mut found = BTreeMap::new(alloc);
     for leaf in 0..trees.len() {
-        let set = copied_set(alloc, &marked.sets, leaf)?;
         let tree = trees[leaf];
-        add_tree(alloc, interner, &mut found, set, tree)?;
+        add_tree(alloc, interner, &mut found, &marked.sets, leaf, tree)?;
     }
     Ok(found)
 }

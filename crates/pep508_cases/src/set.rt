@@ -122,9 +122,8 @@ fn cmp_gaps(gaps: &[usize], rest: usize, others: &[usize], other_rest: usize) ->
             (None, Some((gap, _))) => return order_at_end(*gap, rest).reverse(),
             (Some((gap, _)), None) => return order_at_end(*gap, other_rest),
             (Some((gap, later)), Some((other, others_later))) => {
-                let order = gap.cmp(other);
-                if order.is_ne() {
-                    return order;
+                if *gap != *other {
+                    return gap.cmp(other);
                 }
                 left = later;
                 right = others_later;

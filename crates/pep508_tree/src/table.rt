@@ -107,11 +107,13 @@ impl Ord for Tagged {
     ghost matches_eq = { λ x y. refl };
 
     fn cmp(&self, other: &Tagged) -> Ordering {
-        match self.tag.cmp(&other.tag) {
-            Ordering::Less => Ordering::Less,
-            Ordering::Equal => self.node.cmp(&other.node),
-            Ordering::Greater => Ordering::Greater,
+        if self.tag < other.tag {
+            return Ordering::Less;
         }
+        if other.tag < self.tag {
+            return Ordering::Greater;
+        }
+        self.node.cmp(&other.node)
     }
 }
 

@@ -65,13 +65,18 @@ impl Ord for TreePair {
     ghost matches_eq = { λ x y. refl };
 
     fn cmp(&self, other: &TreePair) -> Ordering {
-        match self.places().cmp(&other.places()) {
+        // By `<` and not by `cmp`, whose result would be made and then looked at: most comparisons end here.
+        let own = self.places();
+        let others = other.places();
+        if own < others {
+            return Ordering::Less;
+        }
+        if others < own {
+            return Ordering::Greater;
+        }
+        match self.first.cmp_places(other.first) {
             Ordering::Less => Ordering::Less,
-            Ordering::Equal => match self.first.cmp_places(other.first) {
-                Ordering::Less => Ordering::Less,
-                Ordering::Equal => self.second.cmp_places(other.second),
-                Ordering::Greater => Ordering::Greater,
-            },
+            Ordering::Equal => self.second.cmp_places(other.second),
             Ordering::Greater => Ordering::Greater,
         }
     }

@@ -32,7 +32,7 @@ loop-leaf-preserved c =
     let sets = m.sets.items in
     let tree = c.index-tree.result.now in
     let one : 0 + k ≡ k = omega arith in
-    let set = c.in_ok-set.ensures ∙ ap (λ those. set_at those k) c.deref.ensures.value in
+    let set = ap (λ those. set_at those k) c.deref.ensures.value in
     let is = subst (λ n. IsTreeOf now (leaf_is f n) tree) one
     (leaf_tree_at now f 0 k c.in_ok-trees.trees.items tree c.loop-leaf.invariant.trees
     (omega (arith, c.loop-leaf-test.true, c.len-leaf-end.ensures)) c.index-tree.ensures) in

@@ -1,8 +1,9 @@
-use Rattle.std.proofs.Common.{◌≡◌, ◌∙◌, ◌∷◌, [], true, false, ap, sym, rules}
-use Rattle.std.specs.Ordering.{ordering_then, ordering_reverse, is_eq}
+use Rattle.std.proofs.Common.{◌≡◌, ◌∙◌, ◌∷◌, [], Equal, ap, sym, arith}
+use Rattle.std.specs.Cmp.{nat_cmp_is}
+use Rattle.std.specs.Ordering.{ordering_then, ordering_reverse, nat_cmp}
 use Rattle.pep508_cases.specs.Cases.{marks_cmp}
 use Rattle.pep508_cases.specs.Sets.{marks_by}
-use Rattle.pep508_cases.proofs.Gaps.{none_of, rests_cmp, gaps_cmp, gap_end, end_gap, decides, ties}
+use Rattle.pep508_cases.proofs.Gaps.{none_of, rests_cmp, gaps_cmp, gap_end, end_gap, decides, unequal}
 use Rattle.pep508_cases.proofs.set.cmp_gaps.Goals as goal
 
 pub returns-in-None-None : goal.returns-in-None-None
@@ -36,8 +37,8 @@ returns-in-Some-None c =
     c.order_at_end-in-Some-None.ensures ∙ sym (gap_end gap end (marks_by later rest))
     ∙ (λ i. marks_cmp (marks_by (sym left i) rest) (marks_by (sym right i) end)) ∙ c.loop-rest.invariant
 
-pub returns-then-is_ne : goal.returns-then-is_ne
-returns-then-is_ne c =
+pub returns-then-gap-other : goal.returns-then-gap-other
+returns-then-gap-other c =
     let rest = c.args.rest in
     let end = c.args.other_rest in
     let gap = c.in-Some-Some.gap.now in
@@ -47,8 +48,7 @@ returns-then-is_ne c =
     let after = marks_cmp (marks_by later rest) (marks_by others end) in
     let left : c.loop-rest.left.now ≡ gap ∷ later = c.in-Some-Some.ensures.cases.0 in
     let right : c.loop-rest.right.now ≡ other ∷ others = c.in-Some-Some.ensures'.cases.0 in
-    let apart : is_eq c.cmp-order.result ≡ false = search rules in
-    decides c.cmp-order.result after apart ∙ ap (λ order. ordering_then order after) c.cmp-order.ensures
+    c.cmp-then-gap-other.ensures ∙ decides (nat_cmp gap other) after (unequal gap other c.if-gap-other.true)
     ∙ sym (gaps_cmp gap other (marks_by later rest) (marks_by others end))
     ∙ (λ i. marks_cmp (marks_by (sym left i) rest) (marks_by (sym right i) end)) ∙ c.loop-rest.invariant
 
@@ -63,7 +63,7 @@ loop-rest-preserved c =
     let after = marks_cmp (marks_by later rest) (marks_by others end) in
     let left : c.loop-rest.left.now ≡ gap ∷ later = c.in-Some-Some.ensures.cases.0 in
     let right : c.loop-rest.right.now ≡ other ∷ others = c.in-Some-Some.ensures'.cases.0 in
-    let tied : is_eq c.cmp-order.result ≡ true = search rules in
-    sym (ties c.cmp-order.result after tied) ∙ ap (λ order. ordering_then order after) c.cmp-order.ensures
+    sym (ap (λ order. ordering_then order after)
+    (sym (nat_cmp_is gap other Equal (omega (arith, c.if-gap-other.false)))))
     ∙ sym (gaps_cmp gap other (marks_by later rest) (marks_by others end))
     ∙ (λ i. marks_cmp (marks_by (sym left i) rest) (marks_by (sym right i) end)) ∙ c.loop-rest.invariant
