@@ -1,5 +1,5 @@
 -- Branches and nodes whose children are given anew.
-use Rattle.std.proofs.Common.{◌≡◌, ◌↔◌, IsTrue, ℕ, ◌<◌, Bool, true, false, List, [], ◌∷◌, length, map, refl, ap, sym, subst, arith}
+use Rattle.std.proofs.Common.{◌≡◌, ◌↔◌, IsTrue, Bool, List, [], ◌∷◌, length, map, refl, sym, subst, arith}
 use Rattle.std.proofs.Common.{Ordering, Less, inl, inr}
 use Rattle.std.proofs.lemmas.Bool.{cases_Bool}
 use Rattle.std.specs.List.{AllByRecursion}
@@ -18,7 +18,7 @@ use Rattle.pep508_tree.specs.Meaning.{NodeOf, Versions, Texts, Flagged}
 use Rattle.pep508_tree.specs.Nodes.{AllChildren, IsRising, IsJoined, chosen, node_place, first_child}
 use Rattle.pep508_tree.specs.Conjunctions.{Meet}
 use Rattle.pep508_leaf_diagram.specs.Forms.{others, IsSingle}
-use Rattle.pep508_leaf_diagram.specs.Joining.{head_or, joined_by, node_joined}
+use Rattle.pep508_leaf_diagram.specs.Joining.{joined_by, node_joined}
 
 pub joined_none : {T C D : Type 0} (same : D → D → Bool) (last : D) (later : List (Branch T C)) (children : List D) →
     length children ≡ 0 → joined_by same last later children ≡ []

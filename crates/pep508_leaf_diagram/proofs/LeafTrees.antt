@@ -1,5 +1,5 @@
 -- Trees of leaves: of parts of a diagram, and while nodes are added.
-use Rattle.std.proofs.Common.{◌≡◌, inl, inr, ℕ, zero, suc, ◌+◌, ◌<◌, ◌≤◌, Bool, true, false, cond, ◌&&◌, ◌==◌, nat_le, nat_lt}
+use Rattle.std.proofs.Common.{◌≡◌, inl, inr, ℕ, zero, suc, ◌+◌, ◌<◌, ◌≤◌, ◌&&◌, ◌==◌, nat_le, nat_lt}
 use Rattle.std.proofs.Common.{List, [], ◌∷◌, ◌++◌, length, get_or, refl, ap, sym, subst, ◌∙◌, arith, append_assoc, length-append}
 use Rattle.std.proofs.Common.{append-nil}
 use Rattle.std.proofs.lemmas.Bool.{cases_Bool}
@@ -7,8 +7,8 @@ use Rattle.std.proofs.lemmas.Bool.Decides.{nat_tests}
 use Rattle.std.specs.List.{AllByRecursion}
 use Rattle.pep508_diagram.specs.Question.{Valuation}
 use Rattle.pep508_tree.specs.Tree.{Tree}
-use Rattle.pep508_tree.specs.Meaning.{NodeOf, NodeRecord, IsTree, Extends, holds}
-use Rattle.pep508_tree.specs.Nodes.{AllChildren, chosen, node_place}
+use Rattle.pep508_tree.specs.Meaning.{NodeOf, NodeRecord, Extends}
+use Rattle.pep508_tree.specs.Nodes.{chosen, node_place}
 use Rattle.pep508_tree.specs.Truths.{IsTreeOf}
 use Rattle.pep508_tree.proofs.Conjoining.{tree_kept}
 use Rattle.pep508_tree.proofs.Diagrams.{holds_kept}
@@ -17,10 +17,9 @@ use Rattle.pep508_tree.proofs.NodeChildren.{weaker_children, both_children}
 use Rattle.pep508_leaf_diagram.specs.declared.child.Child.{Child}
 use Rattle.pep508_leaf_diagram.specs.declared.child.Child.TheVariants.{Leaf, Node, Whole}
 use Rattle.pep508_leaf_diagram.specs.declared.narrow.Leaves.{Leaves}
-use Rattle.pep508_leaf_diagram.specs.Leaves.{leaf_below, fill_leaves, leaves_of, leaf_at, child_node, Stands, IsAbove, IsFit}
-use Rattle.pep508_leaf_diagram.specs.Leaves.{IsSound, IsGraph, no_node}
+use Rattle.pep508_leaf_diagram.specs.Leaves.{leaf_below, fill_leaves, leaves_of, leaf_at, child_node, Stands, IsAbove}
+use Rattle.pep508_leaf_diagram.specs.Leaves.{IsGraph, no_node}
 use Rattle.pep508_leaf_diagram.specs.Trees.{narrow_leaf, leaf_is, AreLeafTrees, ArePushed}
-use Rattle.pep508_leaf_diagram.proofs.Leaves.{stands_more}
 
 -- ---- a leaf that is told apart
 

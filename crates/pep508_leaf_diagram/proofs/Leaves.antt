@@ -1,16 +1,15 @@
 -- The leaf that is reached, while nodes are added.
-use Rattle.std.proofs.Common.{◌≡◌, ◌⊎◌, inl, inr, ℕ, zero, suc, ◌+◌, ◌<◌, ◌≤◌, Bool, true, false, cond, List, [], ◌∷◌, ◌++◌}
-use Rattle.std.proofs.Common.{length, get_or, refl, ap, sym, subst, ◌∙◌, arith, length-append, append_assoc, append-nil}
+use Rattle.std.proofs.Common.{◌≡◌, inl, inr, ℕ, zero, suc, ◌+◌, ◌<◌, ◌≤◌, Bool, true, false, cond, List, [], ◌∷◌, ◌++◌}
+use Rattle.std.proofs.Common.{length, get_or, refl, ap, sym, subst, ◌∙◌, arith, length-append, append-nil}
 use Rattle.std.proofs.Common.{Less}
-use Rattle.std.specs.Cmp.{IsTotalOrder}
 use Rattle.std.specs.Cmp.Lexicographic.{nat_list_cmp_total}
 use Rattle.std.proofs.lemmas.Bool.{cases_lt}
 use Rattle.std.proofs.lemmas.List.{get_or_append_left}
 use Rattle.std.proofs.Math.Seq.{get_or-append_seam}
 use Rattle.pep508_diagram.specs.Text.{text_cmp}
 use Rattle.pep508_diagram.specs.Question.{Valuation}
-use Rattle.pep508_tree.specs.Meaning.{NodeOf, NodeRecord, IsTree}
-use Rattle.pep508_tree.specs.Nodes.{AllChildren, chosen, node_place, first_child}
+use Rattle.pep508_tree.specs.Meaning.{NodeOf, NodeRecord}
+use Rattle.pep508_tree.specs.Nodes.{chosen, node_place, first_child}
 use Rattle.pep508_tree.proofs.NodeChildren.{weaker_children, both_children, first_of_children}
 use Rattle.pep508_tree.proofs.Meanings.{chosen_all}
 use Rattle.pep508_leaf_diagram.specs.declared.child.Child.{Child}

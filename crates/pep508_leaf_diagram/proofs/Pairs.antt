@@ -1,8 +1,6 @@
 -- Pairs of what stands in two diagrams, for each answer about a variable.
-use Rattle.std.proofs.Common.{◌≡◌, ◌⊎◌, inl, inr, ℕ, ◌<◌, Bool, true, false, cond, List, [], ◌∷◌, refl, ap, sym, subst, ◌∙◌}
-use Rattle.std.proofs.Common.{arith, Ordering, Less, Equal, Greater, nat_cmp, length}
-use Rattle.std.proofs.lemmas.Bool.{cases_Bool}
-use Rattle.std.specs.Cmp.Lexicographic.{nat_list_cmp_total}
+use Rattle.std.proofs.Common.{◌≡◌, inl, inr, ℕ, Bool, true, false, cond, List, refl, ap, sym, subst}
+use Rattle.std.proofs.Common.{arith, Equal, nat_cmp}
 use Rattle.version_ranges.specs.HashingLaws.{then_equal}
 use Rattle.version_ranges.specs.Point.{Point}
 use Rattle.pep440_text.specs.Record.{VersionRecord}
@@ -14,11 +12,11 @@ use Rattle.pep508_diagram.specs.declared.variable.Flag.{Flag}
 use Rattle.pep508_diagram.specs.Text.{text_cmp}
 use Rattle.pep508_diagram.specs.Branches.{RisingBranches, branch_at, AllBranches}
 use Rattle.pep508_diagram.specs.Chains.{IsChild}
-use Rattle.pep508_diagram.specs.Question.{Valuation, version_rank, text_rank, flag_rank}
+use Rattle.pep508_diagram.specs.Question.{version_rank, text_rank, flag_rank}
 use Rattle.pep508_diagram.proofs.Places.{numbers_same, texts_same, versions_same, text_keys_same, flags_same}
 use Rattle.pep508_diagram.proofs.Places.{version_rank_below, rank_below, flag_rank_from}
-use Rattle.pep508_tree.specs.Meaning.{NodeOf, NodeRecord, Versions, Texts, Flagged}
-use Rattle.pep508_tree.specs.Nodes.{AllChildren, IsChildIn, chosen, node_place, node_rank, node_text, first_child, second_child}
+use Rattle.pep508_tree.specs.Meaning.{NodeOf, Versions, Texts, Flagged}
+use Rattle.pep508_tree.specs.Nodes.{IsChildIn, chosen, node_place, node_rank, node_text, first_child, second_child}
 use Rattle.pep508_tree.specs.Nodes.{version_branches, text_branches}
 use Rattle.pep508_leaf_diagram.specs.declared.child.Child.{Child}
 use Rattle.pep508_leaf_diagram.specs.Pairing.{ArePaired, PairedNodes, under}

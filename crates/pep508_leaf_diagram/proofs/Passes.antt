@@ -1,8 +1,8 @@
 -- Passes over the nodes of a diagram, each of which gives something for each node.
-use Rattle.std.proofs.Common.{◌≡◌, ◌↔◌, IsTrue, inl, inr, ℕ, zero, suc, ◌+◌, ◌<◌, ◌≤◌, Bool, true, false, not, cond, ◌&&◌, ◌==◌}
+use Rattle.std.proofs.Common.{◌≡◌, ◌↔◌, IsTrue, inl, inr, ℕ, ◌+◌, ◌<◌, Bool, true, false, not, cond, ◌&&◌, ◌==◌}
 use Rattle.std.proofs.Common.{nat_le, nat_lt, List, [], ◌∷◌, ◌++◌, length, map, get_or, refl, ap, sym, subst, ◌∙◌, arith}
-use Rattle.std.proofs.Common.{length-append, Less}
-use Rattle.std.proofs.lemmas.Bool.{cases_Bool, cases_lt}
+use Rattle.std.proofs.Common.{length-append}
+use Rattle.std.proofs.lemmas.Bool.{cases_lt}
 use Rattle.std.proofs.lemmas.List.{get_or_append_left}
 use Rattle.std.proofs.Math.Seq.{get_or-append_seam}
 use Rattle.std.specs.List.{AllByRecursion}
@@ -11,9 +11,8 @@ use Rattle.pep508_diagram.specs.Question.{Valuation}
 use Rattle.pep508_tree.specs.Conjunctions.{Meet}
 use Rattle.pep508_tree.specs.Tree.{Tree, constant, never}
 use Rattle.pep508_tree.specs.Meaning.{NodeOf, NodeRecord, IsTree, Extends, holds}
-use Rattle.pep508_tree.specs.Nodes.{AllChildren, IsRising, IsJoined, Above, Made, chosen, node_place, first_child}
-use Rattle.pep508_tree.specs.Truths.{IsTreeOf}
-use Rattle.pep508_tree.proofs.Conjoining.{tree_kept, meet_with}
+use Rattle.pep508_tree.specs.Nodes.{AllChildren, IsRising, IsJoined, Above, Made, node_place, first_child}
+use Rattle.pep508_tree.proofs.Conjoining.{tree_kept}
 use Rattle.pep508_tree.proofs.Diagrams.{holds_kept}
 use Rattle.pep508_tree.proofs.NodeChildren.{both_children}
 use Rattle.pep508_tree.proofs.Roots.{constant_is}
@@ -23,7 +22,7 @@ use Rattle.pep508_leaf_diagram.specs.declared.child.Child.TheVariants.{Leaf, Nod
 use Rattle.pep508_leaf_diagram.specs.declared.narrow.Leaves.{Leaves}
 use Rattle.pep508_leaf_diagram.specs.Forms.{others}
 use Rattle.pep508_leaf_diagram.specs.Joining.{node_joined}
-use Rattle.pep508_leaf_diagram.specs.Leaves.{leaf_at, child_node, Stands, IsAbove, IsFit, IsSound, IsGraph, IsPut}
+use Rattle.pep508_leaf_diagram.specs.Leaves.{leaf_at, child_node, Stands, IsAbove, IsFit, IsSound, IsPut}
 use Rattle.pep508_leaf_diagram.specs.Trees.{narrow_leaf, narrow_of, tree_below, leaf_is}
 use Rattle.pep508_leaf_diagram.proofs.Joined.{place_joined, rises_joined, is_joined, children_joined, chosen_joined}
 use Rattle.pep508_leaf_diagram.proofs.Joined.{first_and_others}

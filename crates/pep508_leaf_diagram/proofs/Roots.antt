@@ -1,16 +1,14 @@
 -- What is asked first in a marker tree, with what stands for each of its children.
-use Rattle.std.proofs.Common.{◌≡◌, ℕ, zero, suc, ◌+◌, ◌-◌, ◌<◌, ◌==◌, Bool, true, false, not, cond, List, [], ◌∷◌, map}
-use Rattle.std.proofs.Common.{inl, inr, refl, ap, ap₂, sym, subst, ◌∙◌, arith, Ordering, Less, if◌then◌else◌}
+use Rattle.std.proofs.Common.{◌≡◌, ℕ, ◌-◌, ◌<◌, ◌==◌, Bool, true, false, not, cond, List, [], ◌∷◌, map}
+use Rattle.std.proofs.Common.{inl, inr, refl, ap, sym, subst, ◌∙◌, arith, Ordering, Less, if◌then◌else◌}
 use Rattle.std.proofs.lemmas.Bool.{cases_Bool}
-use Rattle.std.specs.List.{AllByRecursion}
 use Rattle.version_ranges.specs.Boundaries.{point_of, boundary_cmp}
-use Rattle.version_ranges.specs.declared.boundary.Boundary.{Boundary}
 use Rattle.version_ranges.specs.Point.{Point, point_cmp}
 use Rattle.version_ranges.specs.Turns.{reaches, Rising}
 use Rattle.pep440_version.specs.Order.{version_cmp}
 use Rattle.pep508_diagram.specs.declared.branch.Branch.{Branch}
 use Rattle.pep508_diagram.specs.Text.{text_cmp}
-use Rattle.pep508_diagram.specs.Branches.{RisingBranches, branch_at, AllBranches}
+use Rattle.pep508_diagram.specs.Branches.{branch_at, AllBranches}
 use Rattle.pep508_diagram.specs.Question.{Valuation}
 use Rattle.pep508_marker.specs.declared.keys.MarkerValueString.{MarkerValueString}
 use Rattle.pep508_diagram.specs.declared.variable.VersionVariable.{VersionVariable}
@@ -18,13 +16,13 @@ use Rattle.pep440_text.specs.Record.{VersionRecord}
 use Rattle.pep508_tree.specs.Tree.{Tree}
 use Rattle.pep508_tree.specs.Meaning.{NodeOf, NodeRecord, Versions, Texts, Flagged, holds, IsTree}
 use Rattle.pep508_tree.specs.Nodes.{AllChildren, IsRising, Above, chosen, node_at, node_place, first_place, turned}
-use Rattle.pep508_tree.specs.Nodes.{turned_branch, signed, first_child}
+use Rattle.pep508_tree.specs.Nodes.{turned_branch, signed}
 use Rattle.pep508_tree.specs.Roots.{IsRoot}
 use Rattle.pep508_tree.proofs.NodeChildren.{weaker_children, first_of_children}
 use Rattle.pep508_tree.proofs.Roots.{constant_is}
 use Rattle.pep508_leaf_diagram.specs.declared.child.Child.{Child}
-use Rattle.pep508_leaf_diagram.specs.declared.child.Child.TheVariants.{Leaf, Node, Whole}
-use Rattle.pep508_leaf_diagram.specs.Leaves.{child_of, child_branch, with_children, leaf_below, leaves_of, leaf_at, IsMade}
+use Rattle.pep508_leaf_diagram.specs.declared.child.Child.TheVariants.{Leaf, Whole}
+use Rattle.pep508_leaf_diagram.specs.Leaves.{child_of, child_branch, with_children, leaf_at, IsMade}
 use Rattle.pep508_leaf_diagram.specs.Leaves.{IsAbove, IsOpened}
 
 -- ---- the node with what stands for its trees

@@ -1,5 +1,5 @@
 -- Children of two diagrams by the variable that comes first in them.
-use Rattle.std.proofs.Common.{◌≡◌, ◌⊎◌, inl, inr, ℕ, List, ◌∷◌, length, refl, ap, sym, subst, ◌∙◌, Less, Equal, Greater, nat_cmp}
+use Rattle.std.proofs.Common.{◌≡◌, inl, inr, ℕ, List, ◌∷◌, refl, ap, sym, subst, ◌∙◌, Less, Equal, Greater, nat_cmp}
 use Rattle.version_ranges.specs.HashingLaws.{then_equal}
 use Rattle.std.specs.Ordering.{ordering_reverse}
 use Rattle.std.specs.Cmp.Lexicographic.{nat_list_cmp_total}
@@ -12,7 +12,7 @@ use Rattle.pep508_tree.proofs.NodeChildren.{weaker_children}
 use Rattle.pep508_tree.proofs.Meanings.{each_child}
 use Rattle.pep508_leaf_diagram.specs.declared.child.Child.{Child}
 use Rattle.pep508_leaf_diagram.specs.declared.diagram.Diagram.{Diagram}
-use Rattle.pep508_leaf_diagram.specs.Leaves.{IsMade, IsAbove, IsOpened, leaf_at}
+use Rattle.pep508_leaf_diagram.specs.Leaves.{IsOpened}
 use Rattle.pep508_leaf_diagram.specs.Pairing.{ArePaired, AreJoined, AreSplit, MadeIn, AboveIn, leaf_in}
 
 -- what is asked first where a child of a diagram stands

@@ -1,17 +1,16 @@
 -- What is known of two diagrams that are merged, while leaves and nodes are added.
-use Rattle.std.proofs.Common.{◌≡◌, ◌↔◌, IsTrue, ℕ, ◌+◌, ◌<◌, ◌≤◌, Bool, List, [], ◌∷◌, ◌++◌, length, take, get_or, refl, ap, sym, subst}
-use Rattle.std.proofs.Common.{◌∙◌, arith, length-append, Less}
+use Rattle.std.proofs.Common.{◌≡◌, ◌↔◌, IsTrue, ℕ, ◌+◌, ◌<◌, Bool, List, [], ◌∷◌, ◌++◌, length, take, get_or, ap, sym, subst}
+use Rattle.std.proofs.Common.{◌∙◌, arith, length-append}
 use Rattle.std.proofs.lemmas.List.{get_or_append_left, take_more}
 use Rattle.std.proofs.Math.Seq.{get_or-append_seam}
 use Rattle.std.specs.List.{AllByRecursion}
 use Rattle.pep508_diagram.specs.Text.{text_cmp}
-use Rattle.pep508_diagram.specs.Question.{Valuation}
 use Rattle.pep508_tree.specs.Conjunctions.{Meet}
 use Rattle.pep508_tree.specs.Meaning.{NodeOf, NodeRecord}
 use Rattle.pep508_tree.specs.Nodes.{AllChildren, chosen, node_place, first_child}
 use Rattle.pep508_tree.proofs.Conjoining.{each_of_list, meet_with, meet_push}
 use Rattle.pep508_leaf_diagram.specs.declared.child.Child.{Child}
-use Rattle.pep508_leaf_diagram.specs.declared.child.Child.TheVariants.{Leaf, Node, Whole}
+use Rattle.pep508_leaf_diagram.specs.declared.child.Child.TheVariants.{Leaf}
 use Rattle.pep508_leaf_diagram.specs.declared.diagram.Diagram.{Diagram}
 use Rattle.pep508_leaf_diagram.specs.declared.merge_walk.Asked.{Asked}
 use Rattle.pep508_leaf_diagram.specs.declared.merge_walk.Done.{Done}

@@ -3,7 +3,7 @@
 ghost use Rattle.std.specs.Prelude.{◌≡◌, ℕ, List, map, length, IfOk, MatchOption, ◌<◌};
 ghost use Rattle.pep508_tree.specs.Meaning.{NodeOf, NodeRecord, IsTree};
 ghost use Rattle.pep508_tree.specs.Nodes.{turned};
-ghost use Rattle.pep508_leaf_diagram.specs.Forms.{record_of};
+ghost use Rattle.pep508_leaf_diagram.specs.Forms.{record_of, form_record};
 ghost use Rattle.pep508_leaf_diagram.specs.Leaves.{child_of, IsGraph, IsFit, IsOpened, IsPut, IsAbove};
 ghost use Rattle.pep508_leaf_diagram.specs.declared.child.Child.{Child};
 ghost use Rattle.pep508_leaf_diagram.specs.declared.child.Child.TheVariants.{Whole};
@@ -47,31 +47,22 @@ impl Node {
     }
 }
 
-/// Returns a copy of branches.
-fn copied<T: NodeValue>(
-    alloc: Global,
-    later: &[Branch<T, Child>],
-) -> Result<Vec<Branch<T, Child>>, AllocError>
-    ensures { IfOk result (λ copy. copy.items ≡ later.now) }
-{
-    let mut branches = Vec::with_capacity(alloc, later.len())?;
-    for branch in later {
-        branches.push(Branch {
-            boundary: copy_of(alloc, &branch.boundary)?,
-            child: branch.child,
-        })?;
-    }
-    Ok(branches)
+/// A variable with its children: that of a node, or one that was made of a tree.
+#[derive(Drop)]
+pub(crate) enum NodeForm<'a> {
+    Lent(&'a Form<Child>),
+    Made(Form<Child>),
 }
 
-fn copy_of_form(alloc: Global, form: &Form<Child>) -> Result<Form<Child>, AllocError>
-    ensures { IfOk result (λ copy. record_of copy ≡ record_of form.now) }
-{
-    Ok(match form {
-        Form::Versions(key, first, later) => Form::Versions(*key, *first, copied(alloc, later)?),
-        Form::Texts(key, first, later) => Form::Texts(*key, *first, copied(alloc, later)?),
-        Form::Flagged(flag, set, unset) => Form::Flagged(flag.try_clone(alloc)?, *set, *unset),
-    })
+impl NodeForm<'_> {
+    pub(crate) fn form(&self) -> &Form<Child>
+        ensures { record_of result.now ≡ form_record self.now }
+    {
+        match self {
+            NodeForm::Lent(form) => form,
+            NodeForm::Made(form) => form,
+        }
+    }
 }
 
 /// Returns the branches with a child for each tree, which is negated where the flag is set.
@@ -126,29 +117,26 @@ fn form_of_tree(
 }
 
 /// Returns the variable of a child with its children, or `None` of a leaf.
-pub(crate) fn opened(
+pub(crate) fn opened<'a>(
     alloc: Global,
     interner: &Interner,
-    diagram: &Diagram,
+    diagram: &'a Diagram,
     child: Child,
-) -> Result<Option<Form<Child>>, AllocError>
+) -> Result<Option<NodeForm<'a>>, AllocError>
     requires diagram { IsDiagram interner.now.nodes diagram.now }
     requires made { MadeIn interner.now.nodes diagram.now child }
     ensures { IfOk result (λ form.
         MatchOption form ((place : List ℕ) → AboveIn interner.now.nodes diagram.now place child)
         (λ form. IsOpened interner.now.nodes
-        diagram.now.leaves diagram.now.nodes.items child (record_of form))) }
+        diagram.now.leaves diagram.now.nodes.items child (form_record form))) }
 {
     match child {
         Child::Leaf(_) => Ok(None),
-        Child::Node(place) => {
-            let form = copy_of_form(alloc, diagram.nodes[place].form())?;
-            Ok(Some(form))
-        }
-        Child::Whole(tree) => {
-            let root = form_of_tree(alloc, interner, tree)?;
-            Ok(root)
-        }
+        Child::Node(place) => Ok(Some(NodeForm::Lent(diagram.nodes[place].form()))),
+        Child::Whole(tree) => match form_of_tree(alloc, interner, tree)? {
+            None => Ok(None),
+            Some(form) => Ok(Some(NodeForm::Made(form))),
+        },
     }
 }
 

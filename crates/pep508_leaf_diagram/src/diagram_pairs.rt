@@ -160,15 +160,15 @@ pub(crate) fn split(
     match (form, other) {
         (None, None) => Ok(None),
         (Some(form), None) => {
-            let pairs = with_second(alloc, &form, &second)?;
+            let pairs = with_second(alloc, form.form(), &second)?;
             Ok(Some(pairs))
         }
         (None, Some(other)) => {
-            let pairs = with_first(alloc, &first, &other)?;
+            let pairs = with_first(alloc, &first, other.form())?;
             Ok(Some(pairs))
         }
         (Some(form), Some(other)) => {
-            let pairs = with_other(alloc, first, second, &form, &other)?;
+            let pairs = with_other(alloc, first, second, form.form(), other.form())?;
             Ok(Some(pairs))
         }
     }

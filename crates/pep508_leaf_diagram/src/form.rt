@@ -85,6 +85,36 @@ fn joined<T: NodeValue, C: Drop, D: Copy + PartialEq>(
     Ok(branches)
 }
 
+/// Returns these branches with other children, as `joined` does, without a copy of a boundary.
+#[tactic(auto, using(crate::proofs::Joined::joined_none))]
+fn rejoined<T: Drop, C: Drop, D: Copy + PartialEq>(
+    alloc: Global,
+    first: D,
+    later: Vec<Branch<T, C>>,
+    children: &[D],
+) -> Result<Vec<Branch<T, D>>, AllocError>
+    ensures { IfOk result (λ branches. branches.items ≡ joined_by D.eq first later.items children.now) }
+{
+    let mut branches = Vec::new(alloc);
+    let mut last = first;
+    let mut left = children;
+    for branch in later {
+        let Some((next, rest)) = left.split_first() else {
+            return Ok(branches);
+        };
+        left = rest;
+        if *next == last {
+            continue;
+        }
+        last = *next;
+        branches.push(Branch {
+            boundary: branch.boundary,
+            child: last,
+        })?;
+    }
+    Ok(branches)
+}
+
 fn first_or<D: Copy>(children: &[D], other: D) -> D
     ensures { result ≡ head_or children.now other }
 {
@@ -144,6 +174,28 @@ impl<C: Copy> Form<C> {
                 first,
                 first_or(others, first),
             ),
+        })
+    }
+
+    /// Returns this variable with another child for each of its children, as `joined` does, and copies no
+    /// boundary.
+    pub fn rejoined<D: Copy + PartialEq>(
+        self,
+        alloc: Global,
+        first: D,
+        others: &[D],
+    ) -> Result<Form<D>, AllocError>
+        ensures { IfOk result (λ form.
+            record_of form ≡ node_joined D.eq (record_of self) first others.now) }
+    {
+        Ok(match self {
+            Form::Versions(key, _, later) => {
+                Form::Versions(key, first, rejoined(alloc, first, later, others)?)
+            }
+            Form::Texts(key, _, later) => {
+                Form::Texts(key, first, rejoined(alloc, first, later, others)?)
+            }
+            Form::Flagged(flag, _, _) => Form::Flagged(flag, first, first_or(others, first)),
         })
     }
 

@@ -135,7 +135,8 @@ fn step(
     };
     let seen = next_missing(walk, &top.pairs, top.seen)?;
     if seen >= top.pairs.len() {
-        let added = walk.add_node(alloc, &top.first, &top.second, &top.form)?;
+        let (first, second) = (top.first, top.second);
+        let added = walk.add_node(alloc, &first, &second, top.form)?;
         return Ok(added);
     }
     let pair = top.pairs[seen];

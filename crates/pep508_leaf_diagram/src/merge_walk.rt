@@ -169,10 +169,10 @@ impl Walk {
         alloc: Global,
         first: &Child,
         second: &Child,
-        form: &Form<Pair>,
+        form: Form<Pair>,
     ) -> Result<bool, AllocError>
         ensures { IfOk result (λ _. (inner : List NodeRecord) (a b : Diagram) → IsWalk inner a b self.old →
-            AreSplit inner a b first.now second.now (record_of form.now) → IsWalk inner a b self.new) }
+            AreSplit inner a b first.now second.now (record_of form) → IsWalk inner a b self.new) }
     {
         equal_children();
         let pair = form.first();
@@ -183,7 +183,7 @@ impl Walk {
         let Some(others) = self.get_all(alloc, &pairs)? else {
             return Ok(false);
         };
-        let joined = form.joined(alloc, child, &others)?;
+        let joined = form.rejoined(alloc, child, &others)?;
         let put = placed(&mut self.nodes, joined)?;
         self.remember(first, second, put)?;
         Ok(true)

@@ -130,8 +130,37 @@ fn leaf_tree(
     Ok(tree_of(&trees, leaf, root))
 }
 
+/// Appends the trees of the leaves `from` up to `to`, those of the first half before the others, from one
+/// diagram. So a smaller diagram is made at each second halving, since copying boundaries takes most time.
+#[cycle(push_trees)]
+fn push_halves(
+    alloc: Global,
+    interner: &mut Interner,
+    count: usize,
+    nodes: &[Node],
+    root: &Child,
+    from: usize,
+    to: usize,
+    trees: &mut Vec<MarkerTree>,
+) -> Result<(), AllocError>
+    requires graph { IsGraph [] count nodes.now }
+    requires root { Stands count (length nodes.now) root.now }
+    requires order { from ≤ to }
+    requires within { to ≤ count }
+    ensures pushed { IfOk result (λ _. ArePushed interner.new.nodes (leaf_at [] nodes.now root.now) from to
+        trees.old.items trees.new.items) }
+    ensures keeps { Extends interner.old.nodes interner.new.nodes }
+    ensures counts { interner.new.conjunctions ≡ interner.old.conjunctions }
+{
+    let middle = from + (to - from) / 2;
+    push_trees(alloc, interner, count, nodes, root, from, middle, trees)?;
+    push_trees(alloc, interner, count, nodes, root, middle, to, trees)?;
+    Ok(())
+}
+
 /// Appends the trees of the leaves `from` up to `to`. Each half of the leaves has a smaller diagram made for
 /// it, so that a leaf costs the nodes on its way, and not all nodes.
+#[cycle(push_trees)]
 fn push_trees(
     alloc: Global,
     interner: &mut Interner,
@@ -166,7 +195,7 @@ fn push_trees(
         other: middle,
     };
     let front = narrowed(alloc, count, nodes, root, lower)?;
-    push_trees(
+    push_halves(
         alloc,
         interner,
         count,
@@ -182,7 +211,7 @@ fn push_trees(
         other: from,
     };
     let back = narrowed(alloc, count, nodes, root, upper)?;
-    push_trees(
+    push_halves(
         alloc,
         interner,
         count,

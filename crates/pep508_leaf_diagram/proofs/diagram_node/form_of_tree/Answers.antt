@@ -1,7 +1,6 @@
-use Rattle.std.proofs.Common.{◌≡◌, ◌∙◌, ap, ap₂, sym, subst, refl, map, rules}
+use Rattle.std.proofs.Common.{◌∙◌, rules}
 use Rattle.pep508_tree.specs.Meaning.{Versions, Texts, Flagged}
-use Rattle.pep508_tree.specs.Nodes.{signed, turned}
-use Rattle.pep508_leaf_diagram.specs.Leaves.{child_of}
+use Rattle.pep508_tree.specs.Nodes.{signed}
 use Rattle.pep508_leaf_diagram.proofs.Roots.{root_opened, versions_signed, texts_signed, above_constant}
 use Rattle.pep508_leaf_diagram.proofs.diagram_node.form_of_tree.Goals as goal
 

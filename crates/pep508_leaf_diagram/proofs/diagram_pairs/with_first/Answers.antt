@@ -1,5 +1,5 @@
-use Rattle.std.proofs.Common.{◌≡◌, ◌∙◌, ap, sym, subst, refl, [], rules}
-use Rattle.pep508_tree.specs.Meaning.{Versions, Texts, Flagged}
+use Rattle.std.proofs.Common.{◌≡◌, ◌∙◌, ap, sym, subst, []}
+use Rattle.pep508_tree.specs.Meaning.{Versions, Texts}
 use Rattle.pep508_tree.specs.Nodes.{IsChildIn, chosen, node_place}
 use Rattle.pep508_leaf_diagram.specs.Forms.{record_of}
 use Rattle.pep508_leaf_diagram.specs.Pairing.{ArePaired}

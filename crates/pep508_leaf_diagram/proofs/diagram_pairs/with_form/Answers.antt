@@ -1,4 +1,4 @@
-use Rattle.std.proofs.Common.{◌≡◌, ◌∙◌, IfOk, ap, sym, subst}
+use Rattle.std.proofs.Common.{◌≡◌, ◌∙◌, IfOk, sym, subst}
 use Rattle.pep508_tree.specs.Nodes.{IsRising}
 use Rattle.pep508_leaf_diagram.specs.Forms.{record_of}
 use Rattle.pep508_leaf_diagram.specs.Pairing.{PairedNodes, under}

@@ -1,9 +1,9 @@
-use Rattle.std.proofs.Common.{◌≡◌, ◌∙◌, ap, sym, subst, refl, [], rules}
-use Rattle.pep508_tree.specs.Meaning.{Versions, Texts, Flagged}
+use Rattle.std.proofs.Common.{◌≡◌, ◌∙◌, ap, sym, subst, []}
+use Rattle.pep508_tree.specs.Meaning.{Versions, Texts}
 use Rattle.pep508_tree.specs.Nodes.{IsChildIn, chosen, node_place}
 use Rattle.pep508_leaf_diagram.specs.Forms.{record_of}
 use Rattle.pep508_leaf_diagram.specs.Pairing.{ArePaired}
-use Rattle.pep508_leaf_diagram.proofs.Pairs.{versions_paired, texts_paired, flags_second}
+use Rattle.pep508_leaf_diagram.proofs.Pairs.{versions_paired, texts_paired}
 use Rattle.pep508_leaf_diagram.proofs.diagram_pairs.with_second.Goals as goal
 
 pub returns-in_ok-pairs-in-Versions : goal.returns-in_ok-pairs-in-Versions

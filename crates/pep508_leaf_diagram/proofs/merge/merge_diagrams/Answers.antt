@@ -1,4 +1,4 @@
-use Rattle.std.proofs.Common.{◌≡◌, length, sym, subst, rules}
+use Rattle.std.proofs.Common.{◌≡◌, length, subst, rules}
 use Rattle.pep508_leaf_diagram.specs.Leaves.{IsGraph, Stands}
 use Rattle.pep508_leaf_diagram.proofs.merge.merge_diagrams.Goals as goal
 

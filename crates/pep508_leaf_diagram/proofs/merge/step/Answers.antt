@@ -1,4 +1,4 @@
-use Rattle.std.proofs.Common.{◌≡◌, ◌∙◌, ◌++◌, ◌∷◌, [], sym, subst, ap, arith}
+use Rattle.std.proofs.Common.{sym, subst, arith}
 use Rattle.std.specs.List.{AllByRecursion}
 use Rattle.pep508_leaf_diagram.specs.Forms.{record_of}
 use Rattle.pep508_leaf_diagram.specs.Pairing.{MadeIn}

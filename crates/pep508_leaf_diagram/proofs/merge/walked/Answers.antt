@@ -1,7 +1,6 @@
-use Rattle.std.proofs.Common.{◌≡◌, ◌++◌, ◌∷◌, [], sym, subst, rules}
+use Rattle.std.proofs.Common.{◌++◌, ◌∷◌, [], sym, subst}
 use Rattle.std.specs.List.{AllByRecursion}
 use Rattle.pep508_leaf_diagram.specs.Walks.{IsWaiting}
-use Rattle.pep508_leaf_diagram.proofs.Walking.{all_behind}
 use Rattle.pep508_leaf_diagram.proofs.merge.walked.Goals as goal
 
 pub loop-init : goal.loop-init

@@ -1,4 +1,4 @@
-use Rattle.std.proofs.Common.{◌≡◌, ◌∙◌, ◌≤◌, [], length, sym, subst, arith}
+use Rattle.std.proofs.Common.{◌≡◌, ◌∙◌, [], length, sym, subst, arith}
 use Rattle.std.proofs.lemmas.List.{get_or_default}
 use Rattle.pep508_leaf_diagram.specs.declared.child.Child.TheVariants.{Leaf}
 use Rattle.pep508_leaf_diagram.specs.Forms.{record_of}

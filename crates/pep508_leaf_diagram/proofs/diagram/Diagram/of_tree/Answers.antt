@@ -1,4 +1,4 @@
-use Rattle.std.proofs.Common.{◌∙◌, ap, []}
+use Rattle.std.proofs.Common.{◌∙◌, ap}
 use Rattle.pep508_leaf_diagram.specs.Leaves.{leaf_at}
 use Rattle.pep508_leaf_diagram.proofs.Roots.{child_leaf}
 use Rattle.pep508_leaf_diagram.proofs.diagram.Diagram.of_tree.Goals as goal

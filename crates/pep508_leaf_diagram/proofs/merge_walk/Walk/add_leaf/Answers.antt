@@ -1,4 +1,4 @@
-use Rattle.std.proofs.Common.{◌≡◌, ◌∙◌, ◌++◌, ◌∷◌, [], length, ap, sym, subst, rules}
+use Rattle.std.proofs.Common.{◌≡◌, ◌++◌, ◌∷◌, [], length, sym, subst, rules}
 use Rattle.pep508_leaf_diagram.specs.declared.child.Child.TheVariants.{Leaf}
 use Rattle.pep508_leaf_diagram.specs.Leaves.{IsGraph}
 use Rattle.pep508_leaf_diagram.specs.Walks.{IsBoth}

@@ -1,4 +1,4 @@
-use Rattle.std.proofs.Common.{◌≡◌, ◌∙◌, length, ap, sym, subst, rules}
+use Rattle.std.proofs.Common.{◌∙◌, length, ap, sym, subst}
 use Rattle.pep508_leaf_diagram.specs.Forms.{record_of, others}
 use Rattle.pep508_leaf_diagram.specs.Joining.{node_joined}
 use Rattle.pep508_leaf_diagram.specs.Leaves.{IsFit, IsPut}
@@ -10,7 +10,7 @@ pub returns : goal.returns
 returns c = λ inner a b walk split.
     let nodes = c.args.self.now.nodes.items in
     let leaves = c.args.self.now.leaves.items in
-    let pairs = record_of c.args.form.now in
+    let pairs = record_of c.args.form in
     let child = c.in-Some.child in
     let cs = c.in-Some-2.others.items in
     let one = subst (λ (p : _). IsBoth inner a b nodes leaves p.0 p.1 child) c.first-pair.ensures

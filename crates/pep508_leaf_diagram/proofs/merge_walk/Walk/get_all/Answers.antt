@@ -1,4 +1,3 @@
-use Rattle.std.proofs.Common.{rules}
 use Rattle.pep508_leaf_diagram.specs.Walks.{IsBoth}
 use Rattle.pep508_leaf_diagram.proofs.Walking.{meet_more}
 use Rattle.pep508_leaf_diagram.proofs.merge_walk.Walk.get_all.Goals as goal
