@@ -13,9 +13,9 @@ stand together in one check, which tells of each function by itself: an edit is 
 function that it changes is told as not proved, and not only since a proof file names what the edit took
 away. Controls stand together in checks of their own.
 
-With --gate an edit of gate.txt that isn't told as refused so has failed; and all edits are tried of a crate
-whose texts or edits aren't those of tests/wrong/judged.txt. Other edits are then tried once more alone, and an
-edit of a definition, which is no function's, by a check of the whole crate. Without --gate what the store
+With --gate all edits are tried of a crate whose texts or edits aren't those of tests/wrong/judged.txt. An edit
+that isn't told as refused so is tried once more alone; one of gate.txt has failed where it isn't then either.
+An edit of a definition, which is no function's, is tried by a check of the whole crate, if gate.txt doesn't name it. Without --gate what the store
 lacks of the libraries is proved first, and what passed of a whole crate is written into judged.txt.
 
 A verdict is kept in the store by the sum of all that it rests on, one on an edit and one on its control, and
@@ -179,11 +179,18 @@ class Trial:
             if AT_A_VALUE in [refusal(at, said, it.crate.name) for at in it.wrong.functions]:
                 self.record(it, EDIT, True)
             elif not it.may_be_alone:
-                self.record(it, EDIT, False, not_refused(said))
+                self.try_once_more(it, said, len(edits) > 1)
             elif len(edits) == 1:
                 self.judge_alone(it, said)
             else:
                 self.judge_alone(it, self.check(it.crate, it.wrong.over({}), [it.wrong])[1])
+
+    def try_once_more(self, edit, said, was_beside):
+        """Judges an edit of gate.txt, by a check of its own where it was tried beside one of a function that it calls."""
+        if was_beside:
+            said = self.check(edit.crate, edit.wrong.over({}), [edit.wrong])[1]
+        is_refused = AT_A_VALUE in [refusal(at, said, edit.crate.name) for at in edit.wrong.functions]
+        self.record(edit, EDIT, is_refused, "" if is_refused else not_refused(said))
 
     def judge_alone(self, edit, said):
         """Counts an edit by what a check told in which no other stands."""
