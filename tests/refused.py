@@ -12,10 +12,15 @@ the refusal. The last run gives the answer with ample memory.
 
 The commands are `reqs check` on each example and on lists that are refused, `reqs matrix`, `reqs same`, `reqs conflicts`
 and `reqs normal`, each of these asked for an object too, those of rows.py, the program's help, and the questions of
-crates/questions, of those on markers every eighth, one a run; each stands with the answer that it has with ample memory. To questions of KEPT the program goes on: it makes a call that was refused memory again, and answers by it
-and by the trees or the table that it made before. There some run has to give the whole answer after a refusal. tests/least.txt says how
-many commands and questions there are at least. The last line is `refused: N passed, M failed`, a command or a kind of
-question each.
+crates/questions, of those on markers every eighth, one a run; each stands with the answer that it has with ample memory.
+To questions of KEPT the program goes on: it makes a call that was refused memory again, and answers by it and by the
+trees or the table that it made before. There some run has to give the whole answer after a refusal.
+
+The requests of `matrix` are counted too: one environment more, in which the cases are the same, asks no more often with
+many packages than with few, since each row is made once and kept.
+
+tests/least.txt says how many commands and questions there are at least. The last line is `refused: N passed, M failed`, a
+command or a kind of question each.
 """
 
 import json
@@ -41,6 +46,8 @@ KEPT = ("keeps", "keeps table")
 NO_MEMORY = objects.line_of({"error": objects.object_of_fault("reqs: out of memory\n")}).encode()
 # Every request after the first that is refused.
 ALL = 2 ** 62
+# Packages and environments of which the requests are counted.
+FEW, MANY = 10, 40
 # A command that asks more often than this doesn't end.
 MOST_REQUESTS = 100_000
 INPUT_REFUSED = 2
@@ -136,6 +143,39 @@ def try_command(library, kind, words, folder, wanted):
         tally.faults.append(f"{label}: no run told want of memory")
     if kind in map(kind_of, KEPT) and tally.harmless == 0:
         tally.faults.append(f"{label}: no run went on after a refusal")
+    return tally
+
+
+def requests_of(library, words, folder):
+    """The number of requests for memory of a command: the first that no refusal meets is one more."""
+    least, most = 1, MOST_REQUESTS
+    while least < most:
+        middle = (least + most) // 2
+        if ran(library, words, folder, middle, ALL)[1]:
+            least = middle + 1
+        else:
+            most = middle
+    return least - 1
+
+
+def rows_are_kept(library, room):
+    """Counts what further environments ask for, with few packages and with many, whose rows are those of the first."""
+    tally = Tally("matrix, a row for all environments:")
+    environment = read(os.path.join(TOP, "examples", "spelling", "environment.json")).decode()
+    asked = {}
+    for packages in (FEW, MANY):
+        names = [f"p{it}" for it in range(packages)]
+        for environments in (FEW, MANY):
+            texts = {"lines": "".join(f"{it}>=1 ; os_name != ''\n" for it in names),
+                     "list": f"[{','.join([environment] * environments)}]", "found": "".join(f"{it} 1.0\n" for it in names)}
+            for name, text in texts.items():
+                with open(os.path.join(room, name), "w", encoding="ascii") as file:
+                    file.write(text)
+            asked[packages, environments] = requests_of(library, [REQS, "matrix", *texts], room)
+    few, many = (asked[it, MANY] - asked[it, FEW] for it in (FEW, MANY))
+    tally.requests, tally.runs = sum(asked.values()), len(asked)
+    if many > few:
+        tally.faults.append(f"{MANY - FEW} environments more ask {few} times with {FEW} packages, and {many} times with {MANY}")
     return tally
 
 
@@ -305,6 +345,8 @@ def main(words):
     with tempfile.TemporaryDirectory(prefix="refused-") as room, multiprocessing.Pool(lanes) as pool:
         for it in pool.imap(work, tasks(os.path.abspath(words[0]), room), chunksize=4):
             tallies.setdefault(it.kind, Tally(it.kind)).add(it)
+        kept = rows_are_kept(os.path.abspath(words[0]), room)
+        tallies[kept.kind] = kept
     for it in tallies.values():
         for fault in it.faults[:5]:
             print(f"FAILED: {fault[:600]}")
