@@ -1,10 +1,10 @@
 #!/usr/bin/env python3
-"""Times `reqs matrix` on lists whose lines, cases or specifiers are many, where a walk too much is felt.
+"""Times `reqs matrix` and `reqs same` on lists whose lines, cases or specifiers are many, where a walk too much is felt.
 
     shapes.py [PROGRAM] [--only NAME,..] [--runs N]
 
-PROGRAM is crates/reqs_cli/out/reqs_cli where none is named (`./build` makes it). Each list is asked for in one
-environment, with all of its extras:
+PROGRAM is crates/reqs_cli/out/reqs_cli where none is named (`./build` makes it). Each list but the last is asked for in
+one environment, with all of its extras:
 
     exact           32,000 lines `pip!=K.5` and then `pip===0.0`, so that no range decides a candidate, and `pip K`
     bounded         the same lines and then `pip<1`, with candidates `pip K.0+cpu` and `pip K.0.post1`
@@ -12,6 +12,10 @@ environment, with all of its extras:
     specifiers-1000 the same of 1,000 specifiers
     packages        100 packages, each of 12 lines with an extra each
     interpreters    2,000 lines, each for interpreters from another version on
+    texts-4000      4,000 lines, each for another `os_name`
+    texts-100000    100,000 of them
+    lists           `same` on one package's lines, which have 2,048 cases, and on others, which have 3,072: each case of
+                    the one list meets each of the other
 
 Seconds are the least processor seconds of several runs of the whole process, MiB the most memory that one held; each is
 at most what stands beside it. The exit status is 1 where one is more, or where an answer is wrong.
@@ -36,8 +40,8 @@ EXTRAS = [f"e{at}" for at in range(FEW)]
 class Shape:
     """Lines, candidates and extras, what has to be said of them, and the most seconds and MiB that they may take."""
 
-    def __init__(self, lines, candidates, rows, seconds, extras=(), mib=None):
-        self.lines, self.candidates, self.extras = lines, candidates, extras
+    def __init__(self, lines, candidates, rows, seconds, extras=(), mib=None, options=()):
+        self.lines, self.candidates, self.words = lines, candidates, [*extras, *options]
         self.rows, self.seconds, self.mib = ["env 1", *rows], seconds, mib
 
     def command(self, program, folder):
@@ -47,10 +51,26 @@ class Shape:
             "environments.json": [json.dumps([ENVIRONMENT])],
             "candidates.txt": self.candidates,
         }
-        for name, lines in texts.items():
-            with open(os.path.join(folder, name), "w", encoding="ascii") as file:
-                file.writelines(f"{line}\n" for line in lines)
-        return [program, "matrix", *(os.path.join(folder, it) for it in texts), *self.extras]
+        return [program, "matrix", *written(folder, texts), *self.words]
+
+
+class Lists:
+    """Two lists of lines that require the same, and the most seconds that it may take to say so."""
+
+    def __init__(self, left, right, seconds):
+        self.texts = {"left.txt": left, "right.txt": right}
+        self.rows, self.seconds, self.mib = ["yes"], seconds, None
+
+    def command(self, program, folder):
+        return [program, "same", *written(folder, self.texts)]
+
+
+def written(folder, texts):
+    """Writes lists of lines into the folder by their names, and returns the paths."""
+    for name, lines in texts.items():
+        with open(os.path.join(folder, name), "w", encoding="ascii") as file:
+            file.writelines(f"{line}\n" for line in lines)
+    return [os.path.join(folder, it) for it in texts]
 
 
 def with_many_lines(last, forms, row):
@@ -78,6 +98,19 @@ def with_interpreters():
     return Shape(lines, ["pip 1.0"], ["pip 1.0"], 0.05)
 
 
+def with_texts(number, seconds):
+    lines = [f"foo ; os_name == 'a{at}'" for at in range(number)]
+    return Shape(lines, [], [], seconds, options=["--limit", str(2 * number)])
+
+
+def two_lists():
+    """Each line of both lists has a marker of its own and allows all that the first allows."""
+    left = [f"foo>=0.{at} ; extra == 'a{at:02}'" for at in range(11)]
+    right = [f"foo!=0.{at} ; extra == 'b{at:02}'" for at in range(10)]
+    names = [f"foo>0.{at} ; os_name == '{name}'" for at, name in enumerate("xy")]
+    return Lists(["foo>=1", *left], ["foo>=1", *right, *names], 0.3)
+
+
 SHAPES = {
     "exact": lambda: with_many_lines("pip===0.0", ["{}"], "pip none"),
     "bounded": lambda: with_many_lines("pip<1", ["{}.0+cpu", "{}.0.post1"], "pip 0.0.post1"),
@@ -85,6 +118,9 @@ SHAPES = {
     "specifiers-1000": lambda: with_specifiers(1000, 1),
     "packages": with_packages,
     "interpreters": with_interpreters,
+    "texts-4000": lambda: with_texts(4000, 0.1),
+    "texts-100000": lambda: with_texts(100_000, 3),
+    "lists": two_lists,
 }
 
 

@@ -17,7 +17,7 @@ def numbers(text):
     return [int(word) for word in text.replace("_", "").split(",")]
 
 
-def words_of(description, program, sizes):
+def words_of(description, program, sizes, most=1.0):
     """A parser of the words that each of these scripts takes."""
     words = argparse.ArgumentParser(
         description=description, formatter_class=argparse.RawDescriptionHelpFormatter
@@ -26,7 +26,7 @@ def words_of(description, program, sizes):
     words.add_argument("program", nargs="?", default=os.path.normpath(place))
     words.add_argument("--sizes", metavar="N,..", type=numbers, default=sizes)
     words.add_argument("--runs", metavar="N", type=int, default=5)
-    words.add_argument("--most", metavar="SECONDS", type=float, default=1.0)
+    words.add_argument("--most", metavar="SECONDS", type=float, default=most)
     return words
 
 
