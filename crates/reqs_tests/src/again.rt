@@ -48,6 +48,7 @@ fn both_answers<F: Fn(&Version, bool) -> bool>(
 }
 
 /// The answers for environments, one after the other, among candidates that were found once.
+#[tactic(auto, using(reqtable_table::proofs::Told::told_at_first))]
 fn answers_among<F: Fn(&Version, bool) -> bool>(
     alloc: Global,
     table: &mut Table,

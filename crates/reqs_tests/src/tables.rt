@@ -93,6 +93,7 @@ fn only_candidates_that_are_not_plain_are_asked(rt: HostRuntime) -> Result<(), F
 }
 
 /// How many specifiers were tested after one answer, and after a second among the same candidates.
+#[tactic(auto, using(reqtable_table::proofs::Told::told_at_first))]
 fn tests_of_two(
     alloc: Global,
     table: &mut Table,
