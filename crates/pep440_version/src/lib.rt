@@ -5,6 +5,7 @@
 
 pub mod laws;
 mod ordering;
+mod packing;
 mod parse_error;
 mod pattern;
 mod print;
@@ -18,3 +19,6 @@ pub use pattern::VersionPattern;
 pub use pep440_text::{LocalSegment, Prerelease, PrereleaseKind};
 pub use read_outcome::FromValueError;
 pub use version::Version;
+
+#[cfg(test)]
+mod tests;

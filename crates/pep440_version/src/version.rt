@@ -10,7 +10,9 @@ ghost use Rattle.pep440_version.specs.declared.parse_error.VersionParseError.The
 ghost use Rattle.pep440_version.specs.VersionReading.{NoLeadingNumber, version_reading, told_version};
 ghost use Rattle.pep440_text.specs.Releases.{numbers_of};
 ghost use Rattle.pep440_version.specs.Changes.{is_prerelease, has_local};
+ghost use Rattle.pep440_version.specs.Packing.{parted, packed};
 
+use crate::packing::{Form, Parts};
 use crate::{LocalSegment, Prerelease, VersionParseError};
 use pep440_text::VersionParts;
 use pep440_text::release::Release;
@@ -25,31 +27,25 @@ use std::marker::Model;
 /// versions.
 #[derive(Drop)]
 pub struct Version {
-    pub(crate) epoch: u64,
-    pub(crate) release: Release,
-    pub(crate) suffixes: Suffixes,
-    pub(crate) local: Vec<LocalSegment>,
+    release: Release,
+    local: Vec<LocalSegment>,
+    form: Form,
 }
 
 impl Model for Version {
-    ghost use Rattle.std.specs.Prelude.{◌<◌, length, map};
+    ghost use Rattle.std.specs.Prelude.{◌≡◌, ◌<◌, length, map};
     ghost use Rattle.pep440_text.specs.Record.{VersionRecord, segment_of};
     ghost use Rattle.pep440_text.specs.Releases.{numbers_of};
+    ghost use Rattle.pep440_version.specs.Packing.{epoch_in, suffixes_in, word_in, version_by, packed};
 
     ghost Value = { VersionRecord };
 
-    ghost view = { λ v. record {
-      epoch = v.epoch;
-      release = numbers_of v.release;
-      pre = v.suffixes.pre;
-      post = v.suffixes.post;
-      dev = v.suffixes.dev;
-      local = map segment_of v.local.items;
-      least = v.suffixes.least;
-      most = v.suffixes.most;
-    } };
+    ghost view = { λ v. version_by (epoch_in v.form) (numbers_of v.release) (suffixes_in v.form)
+        (map segment_of v.local.items) };
 
-    ghost invariant = { λ v. 0 < length (numbers_of v.release) };
+    ghost invariant = { λ v. (0 < length (numbers_of v.release))
+        × (word_in v.form ≡ packed (version_by (epoch_in v.form) (numbers_of v.release) (suffixes_in v.form)
+        (map segment_of v.local.items))) };
 }
 
 impl Version {
@@ -85,24 +81,69 @@ impl Version {
         requires { 0 < length parts.release.items }
         ensures { result ≡ said parts }
     {
-        Version {
+        Version::with_parts(Parts {
             epoch: parts.epoch,
             release: Release::from_vec(parts.release),
             suffixes: Suffixes::new(parts.pre, parts.post, parts.dev),
             local: parts.local,
-        }
+        })
     }
 
     pub(crate) fn of_release(alloc: Global, release: Release) -> Version
         requires { 0 < length (numbers_of release) }
         ensures { result ≡ release_record (numbers_of release) }
     {
-        Version {
+        Version::with_parts(Parts {
             epoch: 0,
             release,
             suffixes: Suffixes::absent(),
             local: Vec::new(alloc),
+        })
+    }
+
+    /// Returns the version of these parts, packed where it has a word.
+    pub(crate) fn with_parts(parts: Parts) -> Version
+        requires { 0 < length (numbers_of parts.release) }
+        ensures { result ≡ parted parts }
+    {
+        let Parts {
+            epoch,
+            release,
+            suffixes,
+            local,
+        } = parts;
+        let form = Form::new(epoch, release.numbers(), suffixes, &local);
+        Version {
+            release,
+            local,
+            form,
         }
+    }
+
+    /// Returns the parts, each for itself.
+    pub(crate) fn into_parts(self) -> Parts
+        ensures parts { parted result ≡ self }
+        ensures some { 0 < length (numbers_of result.release) }
+    {
+        let Version {
+            release,
+            local,
+            form,
+        } = self;
+        let (epoch, suffixes) = form.into_parts();
+        Parts {
+            epoch,
+            release,
+            suffixes,
+            local,
+        }
+    }
+
+    /// Returns the word, where the version has one: versions that have words compare as these do.
+    pub(crate) fn word(&self) -> Option<u64>
+        ensures { result ≡ packed self.now }
+    {
+        self.form.word()
     }
 
     /// Returns a copy, in memory of its own.
@@ -110,10 +151,9 @@ impl Version {
         ensures { IfOk result (λ copy. copy ≡ self.now) }
     {
         Ok(Version {
-            epoch: self.epoch,
             release: Release::from_slice(alloc, self.release.numbers())?,
-            suffixes: self.suffixes.copied(),
             local: copy_segments(alloc, &self.local)?,
+            form: self.form.copied(),
         })
     }
 
@@ -121,7 +161,7 @@ impl Version {
     pub fn epoch(&self) -> u64
         ensures { result ≡ self.now.epoch }
     {
-        self.epoch
+        self.form.epoch()
     }
 
     /// Returns the release numbers, with the zeros at their end that were given (PEP 440, "Final
@@ -137,14 +177,14 @@ impl Version {
     pub fn pre(&self) -> Option<Prerelease>
         ensures { result ≡ self.now.pre }
     {
-        self.suffixes.pre()
+        self.form.pre()
     }
 
     /// Returns the number of the post-release, where the version is one (PEP 440, "Post-releases").
     pub fn post(&self) -> Option<u64>
         ensures { result ≡ self.now.post }
     {
-        self.suffixes.post()
+        self.form.post()
     }
 
     /// Returns the number of the developmental release, where the version is one (PEP 440, "Developmental
@@ -152,7 +192,7 @@ impl Version {
     pub fn dev(&self) -> Option<u64>
         ensures { result ≡ self.now.dev }
     {
-        self.suffixes.dev()
+        self.form.dev()
     }
 
     /// Returns the segments of the local part; none where there is no local part (PEP 440, "Local version
@@ -168,7 +208,7 @@ impl Version {
     pub fn min(&self) -> Option<u64>
         ensures { result ≡ self.now.least }
     {
-        self.suffixes.least()
+        self.form.min()
     }
 
     /// Returns the mark by which the version sorts above every post-release of its release, as the upper
@@ -176,7 +216,7 @@ impl Version {
     pub fn max(&self) -> Option<u64>
         ensures { result ≡ self.now.most }
     {
-        self.suffixes.most()
+        self.form.max()
     }
 
     /// Returns whether the version is a pre-release or a developmental release.
@@ -197,21 +237,21 @@ impl Version {
     pub fn is_pre(&self) -> bool
         ensures { result ≡ is_some self.now.pre }
     {
-        self.suffixes.pre().is_some()
+        self.form.pre().is_some()
     }
 
     /// Returns whether the version is a developmental release (PEP 440, "Developmental releases").
     pub fn is_dev(&self) -> bool
         ensures { result ≡ is_some self.now.dev }
     {
-        self.suffixes.dev().is_some()
+        self.form.dev().is_some()
     }
 
     /// Returns whether the version is a post-release (PEP 440, "Post-releases").
     pub fn is_post(&self) -> bool
         ensures { result ≡ is_some self.now.post }
     {
-        self.suffixes.post().is_some()
+        self.form.post().is_some()
     }
 
     /// Returns whether the version has a local part (PEP 440, "Local version identifiers").
