@@ -20,7 +20,6 @@ use Rattle.pep440_version.specs.declared.packing.Suffix.TheVariants.{Min, Dev, P
 use Rattle.pep440_version.specs.Packing.{suffix_among, suffix_of, kind_of}
 use Rattle.pep440_version.specs.Packing.{number_of, release_fits, suffix_fits, suffix_bits, fits, Fits}
 use Rattle.pep440_version.specs.Packing.{word_of, packed}
-use Rattle.pep440_version.proofs.Stripped.{then_equal_last}
 use Rattle.pep440_version.proofs.Padded.{padded_is}
 
 -- ---- digits
@@ -53,6 +52,15 @@ digit unit x y r s h k = digit_by (nat_cmp x y) unit x y r s h k (ranks x y)
 
 -- ---- releases
 
+abbrev place_cmp : List ℕ → List ℕ → ℕ → Ordering
+place_cmp a b place = nat_cmp (get_or a place 0) (get_or b place 0)
+
+-- four release numbers compared, and then what is behind them
+abbrev four_cmp : List ℕ → List ℕ → Ordering → Ordering
+four_cmp a b rest =
+    ordering_then (place_cmp a b 0)
+    (ordering_then (place_cmp a b 1) (ordering_then (place_cmp a b 2) (ordering_then (place_cmp a b 3) rest)))
+
 four_numbers : List ℕ → List ℕ
 four_numbers numbers = get_or numbers 0 0 ∷ get_or numbers 1 0 ∷ get_or numbers 2 0 ∷ get_or numbers 3 0 ∷ []
 
@@ -66,26 +74,37 @@ four_stripped (x ∷ y ∷ z ∷ w ∷ []) h = refl
 four_stripped (x ∷ y ∷ z ∷ w ∷ v ∷ more) h = absurd (omega arith)
 
 releases_compare : (a b : List ℕ) → length a ≤ 4 → length b ≤ 4
-    → slice_cmp nat_cmp (stripped a) (stripped b)
-    ≡ ordering_then (nat_cmp (get_or a 0 0) (get_or b 0 0)) (ordering_then (nat_cmp (get_or a 1 0) (get_or b 1 0))
-    (ordering_then (nat_cmp (get_or a 2 0) (get_or b 2 0)) (nat_cmp (get_or a 3 0) (get_or b 3 0))))
+    → slice_cmp nat_cmp (stripped a) (stripped b) ≡ four_cmp a b Equal
 unfolding four_numbers
 releases_compare a b h k =
-    let one = four_stripped a h in
-    let other = four_stripped b k in
-    let last = then_equal_last (nat_cmp (get_or a 3 0) (get_or b 3 0)) in
-    let padded = padded_is (four_numbers a) (four_numbers b) in
-    ap (λ x. slice_cmp nat_cmp x (stripped b)) one ∙ ap (slice_cmp nat_cmp (stripped (four_numbers a))) other ∙ padded
-    ∙ ap (λ o. ordering_then (nat_cmp (get_or a 0 0) (get_or b 0 0)) (ordering_then (nat_cmp (get_or a 1 0) (get_or b 1 0))
-    (ordering_then (nat_cmp (get_or a 2 0) (get_or b 2 0)) o))) last
+    ap (λ numbers. slice_cmp nat_cmp numbers (stripped b)) (four_stripped a h)
+    ∙ ap (slice_cmp nat_cmp (stripped (four_numbers a))) (four_stripped b k)
+    ∙ padded_is (four_numbers a) (four_numbers b)
+
+then_assoc : (o p q : Ordering) → ordering_then (ordering_then o p) q ≡ ordering_then o (ordering_then p q)
+then_assoc Less p q = refl
+then_assoc Equal p q = refl
+then_assoc Greater p q = refl
+
+regrouped : (o p q r rest : Ordering)
+    → ordering_then (ordering_then o (ordering_then p (ordering_then q (ordering_then r Equal)))) rest
+    ≡ ordering_then o (ordering_then p (ordering_then q (ordering_then r rest)))
+regrouped o p q r rest =
+    then_assoc o (ordering_then p (ordering_then q (ordering_then r Equal))) rest
+    ∙ ap (ordering_then o) (then_assoc p (ordering_then q (ordering_then r Equal)) rest
+    ∙ ap (ordering_then p) (then_assoc q (ordering_then r Equal) rest
+    ∙ ap (ordering_then q) (then_assoc r Equal rest)))
+
+four_then : (a b : List ℕ) (rest : Ordering) → ordering_then (four_cmp a b Equal) rest ≡ four_cmp a b rest
+four_then a b rest = regrouped (place_cmp a b 0) (place_cmp a b 1) (place_cmp a b 2) (place_cmp a b 3) rest
 
 -- ---- suffixes
 
 -- the components of a key that the suffixes decide
 abbrev suffix_key : Option Prerelease → Option ℕ → Option ℕ → Option ℕ → Option ℕ → List (List ℕ)
 suffix_key pre post dev least most =
-    (class_below least (suffix_class pre post dev most) ∷ []) ∷ pre_key pre ∷ post_key post most ∷ absent_first least
-    ∷ absent_last dev ∷ []
+    (class_below least (suffix_class pre post dev most) ∷ []) ∷ pre_key pre ∷ post_key post most
+    ∷ absent_first least ∷ absent_last dev ∷ []
 
 abbrev alone_key : Suffix → List (List ℕ)
 alone_key (Min number) = suffix_key None None None (Some number) None
@@ -96,7 +115,8 @@ alone_key (Post number) = suffix_key None (Some number) None None None
 alone_key (Max number) = suffix_key None None None None (Some number)
 
 alone : (pre : Option Prerelease) (post dev least most : Option ℕ) (suffix : Suffix)
-    → suffix_among pre post dev least most ≡ Some suffix → suffix_key pre post dev least most ≡ alone_key suffix
+    → suffix_among pre post dev least most ≡ Some suffix
+    → suffix_key pre post dev least most ≡ alone_key suffix
 alone None None None None None suffix e = let same : Bare ≡ suffix = cc in ap alone_key same
 alone (Some pre) None None None None suffix e =
     let same : Pre pre.kind pre.number ≡ suffix = cc in ap alone_key same
@@ -112,7 +132,8 @@ twice_last Equal = refl
 twice_last Greater = refl
 
 suffixes_compare : (s t : Suffix)
-    → key_cmp (alone_key s) (alone_key t) ≡ ordering_then (nat_cmp (kind_of s) (kind_of t)) (nat_cmp (number_of s) (number_of t))
+    → key_cmp (alone_key s) (alone_key t)
+    ≡ ordering_then (nat_cmp (kind_of s) (kind_of t)) (nat_cmp (number_of s) (number_of t))
 suffixes_compare (Min m) (Min n) = twice_last (nat_cmp m n)
 suffixes_compare (Dev m) (Dev n) = twice_last (nat_cmp m n)
 suffixes_compare (Pre Alpha m) (Pre Alpha n) = twice_last (nat_cmp m n)
@@ -143,16 +164,16 @@ kind_small s = omega arith
 -- ---- versions
 
 -- what is known of a version that has a word
-pub record Fitting (version : VersionRecord) (suffix : Suffix) : Type 0 where
-  pub epoch_zero : version.epoch ≡ 0
-  pub no_local : has_segments version.local ≡ false
-  pub few : length version.release ≤ 4
-  pub first : get_or version.release 0 0 < 2 ^ 16
-  pub second : get_or version.release 1 0 < 2 ^ 8
-  pub third : get_or version.release 2 0 < 2 ^ 8
-  pub fourth : get_or version.release 3 0 < 2 ^ 8
-  pub alone : suffix_of version ≡ Some suffix
-  pub number : number_of suffix < 2 ^ 21
+record Fitting (version : VersionRecord) (suffix : Suffix) : Type 0 where
+  epoch_zero : version.epoch ≡ 0
+  no_local : has_segments version.local ≡ false
+  few : length version.release ≤ 4
+  first : get_or version.release 0 0 < 2 ^ 16
+  second : get_or version.release 1 0 < 2 ^ 8
+  third : get_or version.release 2 0 < 2 ^ 8
+  fourth : get_or version.release 3 0 < 2 ^ 8
+  alone : suffix_of version ≡ Some suffix
+  number : number_of suffix < 2 ^ 21
 
 is_zero : (n : ℕ) → (n == 0) ≡ true → n ≡ 0
 is_zero n e = grind (arith, nat_tests)
@@ -168,8 +189,8 @@ is_not true e = absurd (false≢true e)
 is_not false e = refl
 
 bounds : (numbers : List ℕ) → release_fits numbers ≡ true
-    → (length numbers ≤ 4) × (get_or numbers 0 0 < 2 ^ 16) × (get_or numbers 1 0 < 2 ^ 8) × (get_or numbers 2 0 < 2 ^ 8)
-    × (get_or numbers 3 0 < 2 ^ 8)
+    → (length numbers ≤ 4) × (get_or numbers 0 0 < 2 ^ 16) × (get_or numbers 1 0 < 2 ^ 8)
+    × (get_or numbers 2 0 < 2 ^ 8) × (get_or numbers 3 0 < 2 ^ 8)
 bounds numbers e =
     let few = nat_le (length numbers) 4 in
     let first = nat_lt (get_or numbers 0 0) (2 ^ 16) in
@@ -182,23 +203,31 @@ bounds numbers e =
     let one = and_parts few first two.0 in
     (is_within _ _ one.0, is_below _ _ one.1, is_below _ _ two.1, is_below _ _ three.1, is_below _ _ all.1)
 
-pub fitting : (v : VersionRecord) (suffix : Suffix) → suffix_of v ≡ Some suffix → Fits v → Fitting v suffix
-fitting v suffix e h =
-    let plain = and_parts ((v.epoch == 0) && not (has_segments v.local) && release_fits v.release) (suffix_fits (suffix_of v)) h in
-    let front = and_parts ((v.epoch == 0) && not (has_segments v.local)) (release_fits v.release) plain.0 in
+-- the facts that a test of all of them joins
+apart : (v : VersionRecord) → Fits v
+    → (v.epoch ≡ 0) × (has_segments v.local ≡ false) × (release_fits v.release ≡ true)
+    × (suffix_fits (suffix_of v) ≡ true)
+apart v h =
+    let plain = (v.epoch == 0) && not (has_segments v.local) in
+    let all = and_parts (plain && release_fits v.release) (suffix_fits (suffix_of v)) h in
+    let front = and_parts plain (release_fits v.release) all.0 in
     let both = and_parts (v.epoch == 0) (not (has_segments v.local)) front.0 in
-    let size = sym (ap suffix_fits e) ∙ plain.1 in
-    let numbers = bounds v.release front.1 in
+    (is_zero v.epoch both.0, is_not (has_segments v.local) both.1, front.1, all.1)
+
+fitting : (v : VersionRecord) (suffix : Suffix) → suffix_of v ≡ Some suffix → Fits v → Fitting v suffix
+fitting v suffix e h =
+    let facts = apart v h in
+    let numbers = bounds v.release facts.2 in
     record {
-      epoch_zero = is_zero v.epoch both.0;
-      no_local = is_not (has_segments v.local) both.1;
+      epoch_zero = facts.0;
+      no_local = facts.1;
       few = numbers.0;
       first = numbers.1;
       second = numbers.2;
       third = numbers.3;
       fourth = numbers.4;
       alone = e;
-      number = is_below _ _ size;
+      number = is_below _ _ (sym (ap suffix_fits e) ∙ facts.3);
     }
 
 -- its key
@@ -206,7 +235,8 @@ no_local_key : (local : List Segment) → has_segments local ≡ false → local
 no_local_key [] e = refl
 no_local_key (segment ∷ segments) e = absurd (false≢true (sym e))
 
-key_is : (v : VersionRecord) (s : Suffix) → Fitting v s → key_of v ≡ (0 ∷ []) ∷ stripped v.release ∷ alone_key s
+key_is : (v : VersionRecord) (s : Suffix) → Fitting v s
+    → key_of v ≡ (0 ∷ []) ∷ stripped v.release ∷ alone_key s
 unfolding key_of
 key_is v s f =
     let local = no_local_key v.local f.no_local in
@@ -215,14 +245,15 @@ key_is v s f =
     cc
 
 -- its word, digit by digit
-pub suffix_digits : Suffix → ℕ
+suffix_digits : Suffix → ℕ
 suffix_digits s = kind_of s * 2 ^ 21 + number_of s
 
-pub digits : List ℕ → Suffix → ℕ
+digits : List ℕ → Suffix → ℕ
 digits r s =
-    get_or r 0 0 * 2 ^ 48 + (get_or r 1 0 * 2 ^ 40 + (get_or r 2 0 * 2 ^ 32 + (get_or r 3 0 * 2 ^ 24 + suffix_digits s)))
+    get_or r 0 0 * 2 ^ 48
+    + (get_or r 1 0 * 2 ^ 40 + (get_or r 2 0 * 2 ^ 32 + (get_or r 3 0 * 2 ^ 24 + suffix_digits s)))
 
-pub word_is : (v : VersionRecord) (s : Suffix) → suffix_of v ≡ Some s → word_of v ≡ digits v.release s
+word_is : (v : VersionRecord) (s : Suffix) → suffix_of v ≡ Some s → word_of v ≡ digits v.release s
 unfolding digits suffix_digits
 word_is v s e = let bits = ap suffix_bits e in omega (arith, bits)
 
@@ -239,14 +270,12 @@ next_small x r h k = omega arith
 front_small : (x r : ℕ) → x < 2 ^ 8 → r < 2 ^ 40 → x * 2 ^ 40 + r < 2 ^ 48
 front_small x r h k = omega arith
 
+suffix_cmp : Suffix → Suffix → Ordering
+suffix_cmp s t = ordering_then (nat_cmp (kind_of s) (kind_of t)) (nat_cmp (number_of s) (number_of t))
+
 digits_compare : (a b : VersionRecord) (s t : Suffix) → Fitting a s → Fitting b t
-    → nat_cmp (digits a.release s) (digits b.release t)
-    ≡ ordering_then (nat_cmp (get_or a.release 0 0) (get_or b.release 0 0))
-    (ordering_then (nat_cmp (get_or a.release 1 0) (get_or b.release 1 0))
-    (ordering_then (nat_cmp (get_or a.release 2 0) (get_or b.release 2 0))
-    (ordering_then (nat_cmp (get_or a.release 3 0) (get_or b.release 3 0))
-    (ordering_then (nat_cmp (kind_of s) (kind_of t)) (nat_cmp (number_of s) (number_of t))))))
-unfolding digits suffix_digits
+    → nat_cmp (digits a.release s) (digits b.release t) ≡ four_cmp a.release b.release (suffix_cmp s t)
+unfolding digits suffix_digits suffix_cmp
 digits_compare a b s t f g =
     let last = suffix_small s f.number in
     let last' = suffix_small t g.number in
@@ -257,63 +286,47 @@ digits_compare a b s t f g =
     let second = front_small _ _ f.second third in
     let second' = front_small _ _ g.second third' in
     digit (2 ^ 48) (get_or a.release 0 0) (get_or b.release 0 0) _ _ second second'
-    ∙ ap (ordering_then (nat_cmp (get_or a.release 0 0) (get_or b.release 0 0)))
+    ∙ ap (ordering_then (place_cmp a.release b.release 0))
     (digit (2 ^ 40) (get_or a.release 1 0) (get_or b.release 1 0) _ _ third third'
-    ∙ ap (ordering_then (nat_cmp (get_or a.release 1 0) (get_or b.release 1 0)))
+    ∙ ap (ordering_then (place_cmp a.release b.release 1))
     (digit (2 ^ 32) (get_or a.release 2 0) (get_or b.release 2 0) _ _ fourth fourth'
-    ∙ ap (ordering_then (nat_cmp (get_or a.release 2 0) (get_or b.release 2 0)))
+    ∙ ap (ordering_then (place_cmp a.release b.release 2))
     (digit (2 ^ 24) (get_or a.release 3 0) (get_or b.release 3 0) _ _ last last'
-    ∙ ap (ordering_then (nat_cmp (get_or a.release 3 0) (get_or b.release 3 0)))
+    ∙ ap (ordering_then (place_cmp a.release b.release 3))
     (digit (2 ^ 21) (kind_of s) (kind_of t) _ _ f.number g.number))))
-
-then_assoc : (o p q : Ordering) → ordering_then (ordering_then o p) q ≡ ordering_then o (ordering_then p q)
-then_assoc Less p q = refl
-then_assoc Equal p q = refl
-then_assoc Greater p q = refl
-
-regrouped : (a b c d e : Ordering)
-    → ordering_then (ordering_then a (ordering_then b (ordering_then c d))) e
-    ≡ ordering_then a (ordering_then b (ordering_then c (ordering_then d e)))
-regrouped a b c d e =
-    then_assoc a (ordering_then b (ordering_then c d)) e
-    ∙ ap (ordering_then a) (then_assoc b (ordering_then c d) e ∙ ap (ordering_then b) (then_assoc c d e))
 
 words_by : (a b : VersionRecord) (s t : Suffix) → Fitting a s → Fitting b t
     → nat_cmp (word_of a) (word_of b) ≡ version_cmp a b
+unfolding suffix_cmp
 words_by a b s t f g =
+    let key : List (List ℕ) = (0 ∷ []) ∷ stripped a.release ∷ alone_key s in
     let words : nat_cmp (word_of a) (word_of b) ≡ nat_cmp (digits a.release s) (digits b.release t) =
-    ap (λ n. nat_cmp n (word_of b)) (word_is a s f.alone) ∙ ap (nat_cmp (digits a.release s)) (word_is b t g.alone) in
-    let keys : version_cmp a b ≡ key_cmp ((0 ∷ []) ∷ stripped a.release ∷ alone_key s) ((0 ∷ []) ∷ stripped b.release ∷ alone_key t) =
-    ap (λ k. key_cmp k (key_of b)) (key_is a s f) ∙ ap (key_cmp ((0 ∷ []) ∷ stripped a.release ∷ alone_key s)) (key_is b t g) in
-    let suffixes = sym (suffixes_compare s t) in
-    let groups = sym (regrouped (nat_cmp (get_or a.release 0 0) (get_or b.release 0 0))
-    (nat_cmp (get_or a.release 1 0) (get_or b.release 1 0)) (nat_cmp (get_or a.release 2 0) (get_or b.release 2 0))
-    (nat_cmp (get_or a.release 3 0) (get_or b.release 3 0)) (key_cmp (alone_key s) (alone_key t))) in
-    let releases = sym (releases_compare a.release b.release f.few g.few) in
-    words ∙ digits_compare a b s t f g
-    ∙ ap (λ o. ordering_then (nat_cmp (get_or a.release 0 0) (get_or b.release 0 0))
-    (ordering_then (nat_cmp (get_or a.release 1 0) (get_or b.release 1 0))
-    (ordering_then (nat_cmp (get_or a.release 2 0) (get_or b.release 2 0))
-    (ordering_then (nat_cmp (get_or a.release 3 0) (get_or b.release 3 0)) o)))) suffixes
-    ∙ groups ∙ ap (λ o. ordering_then o (key_cmp (alone_key s) (alone_key t))) releases ∙ sym keys
+    ap (λ n. nat_cmp n (word_of b)) (word_is a s f.alone)
+    ∙ ap (nat_cmp (digits a.release s)) (word_is b t g.alone) in
+    let keys : version_cmp a b ≡ key_cmp key ((0 ∷ []) ∷ stripped b.release ∷ alone_key t) =
+    ap (λ k. key_cmp k (key_of b)) (key_is a s f) ∙ ap (key_cmp key) (key_is b t g) in
+    words ∙ digits_compare a b s t f g ∙ ap (four_cmp a.release b.release) (sym (suffixes_compare s t))
+    ∙ sym (four_then a.release b.release (key_cmp (alone_key s) (alone_key t)))
+    ∙ ap (λ o. ordering_then o (key_cmp (alone_key s) (alone_key t)))
+    (sym (releases_compare a.release b.release f.few g.few))
+    ∙ sym keys
 
-pub no_suffix : (v : VersionRecord) → suffix_of v ≡ None → Fits v → ⊥
-no_suffix v e h =
-    let plain = and_parts ((v.epoch == 0) && not (has_segments v.local) && release_fits v.release) (suffix_fits (suffix_of v)) h in
-    false≢true (sym (ap suffix_fits e) ∙ plain.1)
+no_suffix : (v : VersionRecord) → suffix_of v ≡ None → Fits v → ⊥
+no_suffix v e h = false≢true (sym (ap suffix_fits e) ∙ (apart v h).3)
 
-of_suffixes : (a b : VersionRecord) (o p : Option Suffix) → suffix_of a ≡ o → suffix_of b ≡ p → Fits a → Fits b
-    → nat_cmp (word_of a) (word_of b) ≡ version_cmp a b
+of_suffixes : (a b : VersionRecord) (o p : Option Suffix) → suffix_of a ≡ o → suffix_of b ≡ p
+    → Fits a → Fits b → nat_cmp (word_of a) (word_of b) ≡ version_cmp a b
 of_suffixes a b None p d e h k = absurd (no_suffix a d h)
 of_suffixes a b (Some s) None d e h k = absurd (no_suffix b e k)
 of_suffixes a b (Some s) (Some t) d e h k = words_by a b s t (fitting a s d h) (fitting b t e k)
 
-pub words_compare : (a b : VersionRecord) → Fits a → Fits b → nat_cmp (word_of a) (word_of b) ≡ version_cmp a b
+pub words_compare : (a b : VersionRecord) → Fits a → Fits b
+    → nat_cmp (word_of a) (word_of b) ≡ version_cmp a b
 words_compare a b h k = of_suffixes a b (suffix_of a) (suffix_of b) refl refl h k
 
 -- by the words themselves
-has_word : (v : VersionRecord) (word : ℕ) (t : Bool) → fits v ≡ t → (if t then Some (word_of v) else None) ≡ Some word
-    → (Fits v) × (word_of v ≡ word)
+has_word : (v : VersionRecord) (word : ℕ) (t : Bool) → fits v ≡ t
+    → (if t then Some (word_of v) else None) ≡ Some word → (Fits v) × (word_of v ≡ word)
 has_word v word true e h = (e, cc)
 has_word v word false e h = absurd (cc)
 
@@ -326,18 +339,15 @@ pub packed_compare : (a b : VersionRecord) (x y : ℕ) → packed a ≡ Some x �
 packed_compare a b x y h k =
     let one = word_fits a x h in
     let other = word_fits b y k in
-    ap (λ n. nat_cmp n y) (sym one.1) ∙ ap (nat_cmp (word_of a)) (sym other.1) ∙ words_compare a b one.0 other.0
+    ap (λ n. nat_cmp n y) (sym one.1) ∙ ap (nat_cmp (word_of a)) (sym other.1)
+    ∙ words_compare a b one.0 other.0
 
 nothing_local : (local : List Segment) → has_segments local ≡ false → local ≡ []
 nothing_local [] e = refl
 nothing_local (segment ∷ segments) e = absurd (false≢true (sym e))
 
 is_public : (v : VersionRecord) → Fits v → v ≡ without_local v
-is_public v h =
-    let plain = and_parts ((v.epoch == 0) && not (has_segments v.local) && release_fits v.release) (suffix_fits (suffix_of v)) h in
-    let front = and_parts ((v.epoch == 0) && not (has_segments v.local)) (release_fits v.release) plain.0 in
-    let both = and_parts (v.epoch == 0) (not (has_segments v.local)) front.0 in
-    ap (λ (local : List Segment). record v { local = local }) (nothing_local v.local (is_not (has_segments v.local) both.1))
+is_public v h = ap (λ (local : List Segment). record v { local = local }) (nothing_local v.local (apart v h).1)
 
 -- a version that has a word has no local part
 pub public_packed_compare : (a b : VersionRecord) (x y : ℕ) → packed a ≡ Some x → packed b ≡ Some y

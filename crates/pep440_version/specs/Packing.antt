@@ -1,8 +1,8 @@
 -- The words of versions: numbers of 64 bits whose order is that of the versions that have one.
 --
--- A version has a word where its epoch is 0, it has no local part, at most four release numbers and at most one
--- suffix, and each of its numbers fits its bits. From the highest bit these are 16 for the first release number,
--- 8 for each of the next three, 3 for the kind of the suffix and 21 for its number.
+-- A version has a word where its epoch is 0, it has no local part, at most four release numbers and at most
+-- one suffix, and each of its numbers fits its bits. From the highest bit these are 16 for the first release
+-- number, 8 for each of the next three, 3 for the kind of the suffix and 21 for its number.
 use Rattle.std.specs.Prelude.{ℕ, ◌+◌, ◌*◌, ◌/◌, ◌%◌, ◌^◌, ◌==◌, ◌&&◌, nat_lt, nat_le, Bool, false, not}
 use Rattle.std.specs.Prelude.{if◌then◌else◌, List, length, map, slice_index, Option, Some, None, IsTrue}
 use Rattle.pep440_text.specs.declared.Prerelease.{Prerelease}
@@ -57,8 +57,9 @@ number_of (Max number) = number
 -- the release numbers and their bits; a release that has ended goes on with zeros
 abbrev pub release_fits : List ℕ → Bool
 release_fits numbers =
-    nat_le (length numbers) 4 && nat_lt (slice_index numbers 0) (2 ^ 16) && nat_lt (slice_index numbers 1) (2 ^ 8)
-    && nat_lt (slice_index numbers 2) (2 ^ 8) && nat_lt (slice_index numbers 3) (2 ^ 8)
+    nat_le (length numbers) 4 && nat_lt (slice_index numbers 0) (2 ^ 16)
+    && nat_lt (slice_index numbers 1) (2 ^ 8) && nat_lt (slice_index numbers 2) (2 ^ 8)
+    && nat_lt (slice_index numbers 3) (2 ^ 8)
 
 abbrev pub release_bits : List ℕ → ℕ
 release_bits numbers =
@@ -77,7 +78,8 @@ suffix_bits (Some suffix) = kind_of suffix * 2 ^ 21 + number_of suffix
 -- whether a version has a word
 abbrev pub fits : VersionRecord → Bool
 fits version =
-    (version.epoch == 0) && not (has_local version) && release_fits version.release && suffix_fits (suffix_of version)
+    (version.epoch == 0) && not (has_local version) && release_fits version.release
+    && suffix_fits (suffix_of version)
 
 abbrev pub Fits : VersionRecord → Type 0
 Fits version = IsTrue (fits version)
@@ -150,5 +152,10 @@ version_by epoch release suffixes local =
       most = suffixes.most;
     }
 
+-- of a form, release numbers and a local part
+abbrev pub formed : Form → List ℕ → List Segment → VersionRecord
+formed form release local = version_by (epoch_in form) release (suffixes_in form) local
+
 abbrev pub parted : Parts → VersionRecord
-parted parts = version_by parts.epoch (numbers_of parts.release) parts.suffixes (map segment_of parts.local.items)
+parted parts =
+    version_by parts.epoch (numbers_of parts.release) parts.suffixes (map segment_of parts.local.items)

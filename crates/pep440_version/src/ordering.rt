@@ -176,7 +176,7 @@ impl Version {
         ensures { result ≡ version_cmp (without_local self.now) (without_local other.now) }
     {
         match (self.word(), other.word()) {
-            (Some(word), Some(other_word)) => word.cmp(&other_word),
+            (Some(left), Some(right)) => left.cmp(&right),
             _ => self.cmp_public_parts(other),
         }
     }

@@ -1,14 +1,21 @@
 //! The two forms of a version: packed, by a word whose order is that of the versions, and full.
 //!
-//! A word has, from its highest bit, 16 bits of the first release number, 8 bits of each of the next three, 3 bits
-//! of the kind of the suffix and 21 bits of its number.
+//! A word has, from its highest bit, 16 bits of the first release number, 8 bits of each of the next three,
+//! 3 bits of the kind of the suffix and 21 bits of its number. Versions that have words compare as these do,
+//! which is one comparison of integers; nearly all versions have one.
+//!
+//! The word is also where a packed version has its suffix. Its release numbers stand beside it in either
+//! form, since `Version::release` lends them and `1.0` and `1.0.0` print differently; so does the local part,
+//! which a packed version lacks. So a setter such as `with_post` changes the form without taking memory: a
+//! version is 120 bytes, 8 more than if the full form were the only one.
 
-ghost use Rattle.std.specs.Prelude.{◌≡◌, ◌+◌, ◌==◌, ◌&&◌, not, map, slice_index, if◌then◌else◌, Some, None};
+ghost use Rattle.std.specs.Prelude.{◌≡◌, ◌+◌, ◌==◌, ◌&&◌, not, map, if◌then◌else◌, [], ◌∷◌, Some, None};
+ghost use Rattle.pep440_text.specs.Kept.{no_suffixes};
 ghost use Rattle.pep440_text.specs.Record.{segment_of};
 ghost use Rattle.pep440_version.specs.Changes.{has_segments};
 ghost use Rattle.pep440_version.specs.Packing.{suffix_among, kind_of, number_of, release_fits, release_bits};
-ghost use Rattle.pep440_version.specs.Packing.{suffix_fits, suffix_bits, suffix_in, alone, packed, version_by};
-ghost use Rattle.pep440_version.specs.Packing.{word_in, epoch_in, suffixes_in};
+ghost use Rattle.pep440_version.specs.Packing.{suffix_fits, suffix_bits, suffix_in, alone, packed};
+ghost use Rattle.pep440_version.specs.Packing.{version_by, word_in, epoch_in, suffixes_in};
 
 use crate::ordering::rank;
 use crate::{LocalSegment, Prerelease, PrereleaseKind};
@@ -151,13 +158,15 @@ impl Suffix {
     }
 }
 
-/// Returns the number at this place; 0 where the numbers have ended.
-fn number_at(numbers: &[u64], place: usize) -> u64
-    ensures { result ≡ slice_index numbers.now place }
+/// Returns the bits of four release numbers; `None` where one does not fit.
+fn numbers_bits(first: u64, second: u64, third: u64, fourth: u64) -> Option<u64>
+    ensures { let numbers = first ∷ second ∷ third ∷ fourth ∷ [] in
+        result ≡ if release_fits numbers then Some (release_bits numbers) else None }
 {
-    match numbers.get(place) {
-        Some(number) => *number,
-        None => 0,
+    if first < 65536 && second < 256 && third < 256 && fourth < 256 {
+        Some(first * FIRST + second * SECOND + third * THIRD + fourth * FOURTH)
+    } else {
+        None
     }
 }
 
@@ -165,14 +174,13 @@ fn number_at(numbers: &[u64], place: usize) -> u64
 fn release_bits(numbers: &[u64]) -> Option<u64>
     ensures { result ≡ if release_fits numbers.now then Some (release_bits numbers.now) else None }
 {
-    let first = number_at(numbers, 0);
-    let second = number_at(numbers, 1);
-    let third = number_at(numbers, 2);
-    let fourth = number_at(numbers, 3);
-    if numbers.len() <= 4 && first < 65536 && second < 256 && third < 256 && fourth < 256 {
-        Some(first * FIRST + second * SECOND + third * THIRD + fourth * FOURTH)
-    } else {
-        None
+    match numbers {
+        [] => Some(0),
+        [first] => numbers_bits(*first, 0, 0, 0),
+        [first, second] => numbers_bits(*first, *second, 0, 0),
+        [first, second, third] => numbers_bits(*first, *second, *third, 0),
+        [first, second, third, fourth] => numbers_bits(*first, *second, *third, *fourth),
+        _ => None,
     }
 }
 
@@ -189,16 +197,17 @@ fn suffix_bits(suffix: Suffix) -> Option<u64>
 }
 
 /// Returns the word of the version of these parts; `None` where it has none.
-fn word(epoch: u64, release: &[u64], suffix: Suffix, local: &[LocalSegment]) -> Option<u64>
-    ensures { result ≡ if (epoch == 0) && not (has_segments (map segment_of local.now)) && release_fits release.now
-        && suffix_fits (Some suffix)
-        then Some (release_bits release.now + suffix_bits (Some suffix)) else None }
+fn word(epoch: u64, release: &[u64], suffix: Option<Suffix>, local: &[LocalSegment]) -> Option<u64>
+    ensures { result
+        ≡ if (epoch == 0) && not (has_segments (map segment_of local.now)) && release_fits release.now
+        && suffix_fits suffix
+        then Some (release_bits release.now + suffix_bits suffix) else None }
 {
     if epoch != 0 || !local.is_empty() {
         return None;
     }
     let release = release_bits(release)?;
-    let suffix = suffix_bits(suffix)?;
+    let suffix = suffix_bits(suffix?)?;
     Some(release + suffix)
 }
 
@@ -319,16 +328,44 @@ impl Form {
         suffixes: Suffixes,
         local: &[LocalSegment],
     ) -> Form
-        ensures word { word_in result ≡ packed (version_by epoch release.now suffixes (map segment_of local.now)) }
+        ensures word { word_in result
+            ≡ packed (version_by epoch release.now suffixes (map segment_of local.now)) }
         ensures epoch { epoch_in result ≡ epoch }
         ensures suffixes { suffixes_in result ≡ suffixes }
     {
-        match Suffix::of(&suffixes) {
+        match word(epoch, release, Suffix::of(&suffixes), local) {
             None => Form::Full { epoch, suffixes },
-            Some(suffix) => match word(epoch, release, suffix, local) {
-                None => Form::Full { epoch, suffixes },
-                Some(word) => Form::Packed(word),
+            Some(word) => Form::Packed(word),
+        }
+    }
+
+    /// Returns the form of a version of these parts of a text: packed, where it has a word.
+    #[tactic(auto, using(crate::proofs::Unpacked::text_suffixes), unfolding(crate::specs::Packing::packed))]
+    pub(crate) fn of_text(
+        epoch: u64,
+        release: &[u64],
+        pre: Option<Prerelease>,
+        post: Option<u64>,
+        dev: Option<u64>,
+        local: &[LocalSegment],
+    ) -> Form
+        ensures word { word_in result
+            ≡ packed (version_by epoch release.now (record no_suffixes { pre = pre; post = post; dev = dev })
+            (map segment_of local.now)) }
+        ensures epoch { epoch_in result ≡ epoch }
+        ensures suffixes { suffixes_in result ≡ record no_suffixes { pre = pre; post = post; dev = dev } }
+    {
+        match word(
+            epoch,
+            release,
+            Suffix::among(pre, post, dev, None, None),
+            local,
+        ) {
+            None => Form::Full {
+                epoch,
+                suffixes: Suffixes::new(pre, post, dev),
             },
+            Some(word) => Form::Packed(word),
         }
     }
 }

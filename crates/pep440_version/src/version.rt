@@ -36,16 +36,14 @@ impl Model for Version {
     ghost use Rattle.std.specs.Prelude.{◌≡◌, ◌<◌, length, map};
     ghost use Rattle.pep440_text.specs.Record.{VersionRecord, segment_of};
     ghost use Rattle.pep440_text.specs.Releases.{numbers_of};
-    ghost use Rattle.pep440_version.specs.Packing.{epoch_in, suffixes_in, word_in, version_by, packed};
+    ghost use Rattle.pep440_version.specs.Packing.{word_in, packed, formed};
 
     ghost Value = { VersionRecord };
 
-    ghost view = { λ v. version_by (epoch_in v.form) (numbers_of v.release) (suffixes_in v.form)
-        (map segment_of v.local.items) };
+    ghost view = { λ v. formed v.form (numbers_of v.release) (map segment_of v.local.items) };
 
     ghost invariant = { λ v. (0 < length (numbers_of v.release))
-        × (word_in v.form ≡ packed (version_by (epoch_in v.form) (numbers_of v.release) (suffixes_in v.form)
-        (map segment_of v.local.items))) };
+        × (word_in v.form ≡ packed (formed v.form (numbers_of v.release) (map segment_of v.local.items))) };
 }
 
 impl Version {
@@ -81,12 +79,21 @@ impl Version {
         requires { 0 < length parts.release.items }
         ensures { result ≡ said parts }
     {
-        Version::with_parts(Parts {
-            epoch: parts.epoch,
-            release: Release::from_vec(parts.release),
-            suffixes: Suffixes::new(parts.pre, parts.post, parts.dev),
-            local: parts.local,
-        })
+        let VersionParts {
+            epoch,
+            release,
+            pre,
+            post,
+            dev,
+            local,
+        } = parts;
+        let release = Release::from_vec(release);
+        let form = Form::of_text(epoch, release.numbers(), pre, post, dev, &local);
+        Version {
+            release,
+            local,
+            form,
+        }
     }
 
     pub(crate) fn of_release(alloc: Global, release: Release) -> Version
