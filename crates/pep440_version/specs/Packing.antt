@@ -4,15 +4,13 @@
 -- one suffix, and each of its numbers fits its bits. From the highest bit these are 16 for the first release
 -- number, 8 for each of the next three, 3 for the kind of the suffix and 21 for its number.
 use Rattle.std.specs.Prelude.{ℕ, ◌+◌, ◌*◌, ◌/◌, ◌%◌, ◌^◌, ◌==◌, ◌&&◌, nat_lt, nat_le, Bool, false, not}
-use Rattle.std.specs.Prelude.{if◌then◌else◌, List, length, map, slice_index, Option, Some, None, IsTrue}
+use Rattle.std.specs.Prelude.{if◌then◌else◌, List, length, slice_index, Option, Some, None, IsTrue}
 use Rattle.pep440_text.specs.declared.Prerelease.{Prerelease}
 use Rattle.pep440_text.specs.declared.PrereleaseKind.TheVariants.{Alpha, Beta, Rc}
 use Rattle.pep440_text.specs.Kept.{SuffixRecord, no_suffixes}
-use Rattle.pep440_text.specs.Record.{Segment, VersionRecord, segment_of}
-use Rattle.pep440_text.specs.Releases.{numbers_of}
+use Rattle.pep440_text.specs.Record.{Segment, VersionRecord}
 use Rattle.pep440_version.specs.declared.packing.Form.{Form}
 use Rattle.pep440_version.specs.declared.packing.Form.TheVariants.{Packed, Full}
-use Rattle.pep440_version.specs.declared.packing.Parts.{Parts}
 use Rattle.pep440_version.specs.declared.packing.Suffix.{Suffix}
 use Rattle.pep440_version.specs.declared.packing.Suffix.TheVariants.{Min, Dev, Pre, Bare, Post, Max}
 use Rattle.pep440_version.specs.Changes.{has_local}
@@ -155,7 +153,3 @@ version_by epoch release suffixes local =
 -- of a form, release numbers and a local part
 abbrev pub formed : Form → List ℕ → List Segment → VersionRecord
 formed form release local = version_by (epoch_in form) release (suffixes_in form) local
-
-abbrev pub parted : Parts → VersionRecord
-parted parts =
-    version_by parts.epoch (numbers_of parts.release) parts.suffixes (map segment_of parts.local.items)

@@ -15,11 +15,10 @@ ghost use Rattle.pep440_text.specs.Record.{segment_of};
 ghost use Rattle.pep440_version.specs.Changes.{has_segments};
 ghost use Rattle.pep440_version.specs.Packing.{suffix_among, kind_of, number_of, release_fits, release_bits};
 ghost use Rattle.pep440_version.specs.Packing.{suffix_fits, suffix_bits, suffix_in, alone, packed};
-ghost use Rattle.pep440_version.specs.Packing.{version_by, word_in, epoch_in, suffixes_in};
+ghost use Rattle.pep440_version.specs.Packing.{version_by, formed, word_in, epoch_in, suffixes_in};
 
 use crate::ordering::rank;
 use crate::{LocalSegment, Prerelease, PrereleaseKind};
-use pep440_text::release::Release;
 use pep440_text::suffixes::Suffixes;
 
 /// What the first, second, third and fourth release number and the kind of a suffix are multiplied by.
@@ -52,18 +51,9 @@ pub(crate) enum Form {
     Full { epoch: u64, suffixes: Suffixes },
 }
 
-/// The parts of a version, each for itself.
-#[derive(Drop)]
-pub(crate) struct Parts {
-    pub(crate) epoch: u64,
-    pub(crate) release: Release,
-    pub(crate) suffixes: Suffixes,
-    pub(crate) local: Vec<LocalSegment>,
-}
-
 impl Suffix {
     /// Returns the suffix, where there is at most one; `None` where there are more.
-    pub(crate) fn among(
+    fn among(
         pre: Option<Prerelease>,
         post: Option<u64>,
         dev: Option<u64>,
@@ -296,15 +286,25 @@ impl Form {
         }
     }
 
-    /// Returns the epoch and the suffixes, each for itself.
+    /// Returns the suffixes and marks of either form.
     #[tactic(auto, unfolding(crate::specs::Packing::unpacked))]
-    pub(crate) fn into_parts(self) -> (u64, Suffixes)
-        ensures { result ≡ (epoch_in self, suffixes_in self) }
+    pub(crate) fn suffixes(&self) -> Suffixes
+        ensures { result ≡ suffixes_in self.now }
     {
         match self {
-            Form::Full { epoch, suffixes } => (epoch, suffixes),
-            Form::Packed(word) => (0, Suffix::of_word(word).alone()),
+            Form::Packed(word) => Suffix::of_word(*word).alone(),
+            Form::Full { suffixes, .. } => suffixes.copied(),
         }
+    }
+
+    /// Returns the form of a version with another release or local part.
+    pub(crate) fn with(&self, release: &[u64], local: &[LocalSegment]) -> Form
+        ensures word { word_in result
+            ≡ packed (formed self.now release.now (map segment_of local.now)) }
+        ensures epoch { epoch_in result ≡ epoch_in self.now }
+        ensures suffixes { suffixes_in result ≡ suffixes_in self.now }
+    {
+        Form::new(self.epoch(), release, self.suffixes(), local)
     }
 
     /// Returns a copy.

@@ -1,7 +1,8 @@
 //! Versions.
 //!
 //! Every version has a release number. This is an invariant of `Version`, so the last number can always be
-//! raised, or is refused as `NumberAtEnd`.
+//! raised, or is refused as `NumberAtEnd`. The other invariant is that a version is packed exactly where it
+//! has a word (`packing`), so its form follows from its parts, however it was made.
 
 ghost use Rattle.std.specs.Prelude.{◌≡◌, ◌≢◌, ◌<◌, length, map, not, is_some, IfOk, Err};
 ghost use Rattle.pep440_text.specs.Record.{VersionRecord, release_record, said, segment_of};
@@ -10,9 +11,9 @@ ghost use Rattle.pep440_version.specs.declared.parse_error.VersionParseError.The
 ghost use Rattle.pep440_version.specs.VersionReading.{NoLeadingNumber, version_reading, told_version};
 ghost use Rattle.pep440_text.specs.Releases.{numbers_of};
 ghost use Rattle.pep440_version.specs.Changes.{is_prerelease, has_local};
-ghost use Rattle.pep440_version.specs.Packing.{parted, packed};
+ghost use Rattle.pep440_version.specs.Packing.{packed};
 
-use crate::packing::{Form, Parts};
+use crate::packing::Form;
 use crate::{LocalSegment, Prerelease, VersionParseError};
 use pep440_text::VersionParts;
 use pep440_text::release::Release;
@@ -27,9 +28,9 @@ use std::marker::Model;
 /// versions.
 #[derive(Drop)]
 pub struct Version {
-    release: Release,
-    local: Vec<LocalSegment>,
-    form: Form,
+    pub(crate) release: Release,
+    pub(crate) local: Vec<LocalSegment>,
+    pub(crate) form: Form,
 }
 
 impl Model for Version {
@@ -100,49 +101,12 @@ impl Version {
         requires { 0 < length (numbers_of release) }
         ensures { result ≡ release_record (numbers_of release) }
     {
-        Version::with_parts(Parts {
-            epoch: 0,
-            release,
-            suffixes: Suffixes::absent(),
-            local: Vec::new(alloc),
-        })
-    }
-
-    /// Returns the version of these parts, packed where it has a word.
-    pub(crate) fn with_parts(parts: Parts) -> Version
-        requires { 0 < length (numbers_of parts.release) }
-        ensures { result ≡ parted parts }
-    {
-        let Parts {
-            epoch,
-            release,
-            suffixes,
-            local,
-        } = parts;
-        let form = Form::new(epoch, release.numbers(), suffixes, &local);
+        let local = Vec::new(alloc);
+        let form = Form::new(0, release.numbers(), Suffixes::absent(), &local);
         Version {
             release,
             local,
             form,
-        }
-    }
-
-    /// Returns the parts, each for itself.
-    pub(crate) fn into_parts(self) -> Parts
-        ensures parts { parted result ≡ self }
-        ensures some { 0 < length (numbers_of result.release) }
-    {
-        let Version {
-            release,
-            local,
-            form,
-        } = self;
-        let (epoch, suffixes) = form.into_parts();
-        Parts {
-            epoch,
-            release,
-            suffixes,
-            local,
         }
     }
 
