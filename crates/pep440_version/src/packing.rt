@@ -2,12 +2,12 @@
 //!
 //! A word has, from its highest bit, 16 bits of the first release number, 8 bits of each of the next three,
 //! 3 bits of the kind of the suffix and 21 bits of its number. Versions that have words compare as these do,
-//! which is one comparison of integers; nearly all versions have one.
+//! which is one comparison of integers; most versions have one.
 //!
-//! The word is also where a packed version has its suffix. Its release numbers stand beside it in either
-//! form, since `Version::release` lends them and `1.0` and `1.0.0` print differently; so does the local part,
-//! which a packed version lacks. So a setter such as `with_post` changes the form without taking memory: a
-//! version is 120 bytes, 8 more than if the full form were the only one.
+//! A packed version has its suffix in the word alone. The release numbers stand beside either form, since
+//! `Version::release` lends them and `1.0` and `1.0.0` print differently, and so does the local part, though
+//! a packed version has none. So `with_post` and its kin change the form and take no memory, and a version
+//! is 120 bytes, 8 more than in the full form alone; a word beside all parts would take 16.
 
 ghost use Rattle.std.specs.Prelude.{◌≡◌, ◌+◌, ◌==◌, ◌&&◌, not, map, if◌then◌else◌, [], ◌∷◌, Some, None};
 ghost use Rattle.pep440_text.specs.Kept.{no_suffixes};
