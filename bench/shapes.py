@@ -1,10 +1,10 @@
 #!/usr/bin/env python3
-"""Times `reqs matrix` and `reqs same` on lists whose lines, cases or specifiers are many, where a walk too much is felt.
+"""Times `reqs` on lists whose lines, cases or specifiers are many, where a walk too much is felt.
 
     shapes.py [PROGRAM] [--only NAME,..] [--runs N]
 
-PROGRAM is crates/reqs_cli/out/reqs_cli where none is named (`./build` makes it). Each list but the last is asked for in
-one environment, with all of its extras:
+PROGRAM is crates/reqs_cli/out/reqs_cli where none is named (`./build` makes it). Each list but the last four is asked of
+`matrix` in one environment, with all of its extras:
 
     exact           32,000 lines `pip!=K.5` and then `pip===0.0`, so that no range decides a candidate, and `pip K`
     bounded         the same lines and then `pip<1`, with candidates `pip K.0+cpu` and `pip K.0.post1`
@@ -16,6 +16,9 @@ one environment, with all of its extras:
     texts-100000    100,000 of them
     lists           `same` on one package's lines, which have 2,048 cases, and on others, which have 3,072: each case of
                     the one list meets each of the other
+    post-releases   `check` of 32,000 lines `pip<N.post1`, which accept all of 32,000 candidates `pip K.0`
+    local-parts     `check` of 32,000 lines `pip!=K.0+cpu`, with candidates `pip K.0+cpu` and `pip K.0.post1`
+    equal-texts     `check` of 32,000 lines `pip===1.0` and one `pip===2.0`, with 32,000 candidates `pip 1.0`
 
 Seconds are the least processor seconds of several runs of the whole process, MiB the most memory that one held; each is
 at most what stands beside it. The exit status is 1 where one is more, or where an answer is wrong.
@@ -54,6 +57,21 @@ class Shape:
         return [program, "matrix", *written(folder, texts), *self.words]
 
 
+class Check:
+    """Lines and candidates in one environment, the row that has to be printed, and the most seconds that it may take."""
+
+    def __init__(self, lines, candidates, row, seconds):
+        self.texts = {
+            "requirements.txt": lines,
+            "environment.json": [json.dumps(ENVIRONMENT)],
+            "candidates.txt": candidates,
+        }
+        self.rows, self.seconds, self.mib = [row], seconds, None
+
+    def command(self, program, folder):
+        return [program, "check", *written(folder, self.texts)]
+
+
 class Lists:
     """Two lists of lines that require the same, and the most seconds that it may take to say so."""
 
@@ -77,6 +95,23 @@ def with_many_lines(last, forms, row):
     lines = [f"pip!={number}.5" for number in range(MANY)]
     candidates = [f"pip {form.format(number)}" for number in range(MANY) for form in forms]
     return Shape([*lines, last], candidates, [row], 0.3)
+
+
+def with_post_releases():
+    """Each candidate is greater than the one before it and accepted by each line."""
+    lines = [f"pip<{MANY + number}.post1" for number in range(MANY)]
+    return Check(lines, [f"pip {number}.0" for number in range(MANY)], f"pip {MANY - 1}.0", 0.2)
+
+
+def with_local_parts():
+    lines = [f"pip!={number}.0+cpu" for number in range(MANY)]
+    candidates = [f"pip {number}.0{form}" for number in range(MANY) for form in ("+cpu", ".post1")]
+    return Check(lines, candidates, f"pip {MANY - 1}.0.post1", 0.3)
+
+
+def with_equal_texts():
+    """Each candidate is accepted by each line but the last."""
+    return Check(["pip===1.0"] * (MANY - 1) + ["pip===2.0"], ["pip 1.0"] * MANY, "pip none", 0.2)
 
 
 def with_specifiers(count, seconds, mib=None):
@@ -121,6 +156,9 @@ SHAPES = {
     "texts-4000": lambda: with_texts(4000, 0.1),
     "texts-100000": lambda: with_texts(100_000, 3),
     "lists": two_lists,
+    "post-releases": with_post_releases,
+    "local-parts": with_local_parts,
+    "equal-texts": with_equal_texts,
 }
 
 

@@ -3,11 +3,12 @@
 all that is proved.
 
     faults.py [texts | proofs]      those that a part finds by reading texts, or those by proofs; or all
+    faults.py --fit                 plants none: sees that the text that each replaces stands once in its file
 
 A gate that takes from a store is worth as much as its sums: a crate whose text changed must never be taken. So a
 body, a contract, a definition, a proof, a line of crates.txt, a test and an answer are made wrong here, and so are the
 edits; store_faults.py has those of the store. A copy has the crates of the fault and those below, so their sums are those of the
-tree. The last line is `N passed, M failed`, a fault each, and each copy without its fault.
+tree. The last line is `N passed, M failed`, a fault each, and each copy without its fault, but for --fit.
 """
 
 import importlib
@@ -33,20 +34,30 @@ class Fault:
     def __init__(self, name, crate, words, path, old, new):
         self.name, self.crate, self.words, self.path, self.old, self.new = name, crate, words, path, old, new
 
+    def misfit(self, room):
+        """Why it can't be planted there, or None. No text to replace stands for a file that may be there or not."""
+        if not self.old and self.new is not None:
+            return None
+        if not os.path.isfile(os.path.join(room, self.path)):
+            return f"{self.path} is no file"
+        count = self.text(room).count(self.old) if self.old else 1
+        return None if count == 1 else f"{self.path} has {count} times, and not once: {self.old}"
+
+    def text(self, room):
+        with open(os.path.join(room, self.path), encoding="utf-8") as file:
+            return file.read()
+
     def plant(self, room):
         path = os.path.join(room, self.path)
         if self.new is None:
             os.remove(path)
             return
-        with open(path, encoding="utf-8") as file:
-            text = file.read()
-        if self.old and text.count(self.old) != 1:
-            raise ValueError(f"{self.path} has {text.count(self.old)} times, and not once: {self.old}")
+        text = self.text(room).replace(self.old, self.new) if self.old else self.new
         with open(path, "w", encoding="utf-8") as file:
-            file.write(text.replace(self.old, self.new) if self.old else self.new)
+            file.write(text)
 
 
-OF_TEXTS, OF_PROOFS = "texts", "proofs"
+OF_TEXTS, OF_PROOFS, FIT = "texts", "proofs", "--fit"
 PROVE, WRONG, HELD, NAMES = ["gate/prove.py"], ["gate/wrong.py"], ["gate/held.py"], ["gate/names.py"]
 LENT, CONSTANTS, FITS = ["gate/lent.py"], ["gate/constants.py"], [*WRONG, "--texts"]
 MUTANTS, FIGURES = ["gate/mutants.py", "--listed"], ["bench/figures.py", "--check"]
@@ -93,7 +104,8 @@ FAULTS = [
           "tests/wrong/underline/dashes_for_blanks.edit", "",
           "file: src/lib.rt\nold: c.width().unwrap_or(0)\nnew: match c.width() { Some(it) => it, None => 0 }\n"),
     Fault("a definition by the code's own table", None, CONSTANTS,
-          "crates/reqs_io_faults/specs/Inputs.antt", "abbrev pub IsWithin :", "abbrev pub IsShort :"),
+          "crates/reqs_io_faults/specs/Inputs.antt", "use Rattle.reqs_io.specs.Front.",
+          "use Rattle.reqs_io.specs.declared.TheConstants.{INPUT_LIMIT}\nuse Rattle.reqs_io.specs.Front."),
     Fault("a definition without one of its fields", None, HELD, SPECIFIERS,
           "  pub is_list : IsListIn bytes members\n  pub is_text : text ≡ map", "  pub is_text : text ≡ map"),
     Fault("a definition with another's name", None, HELD, SPECIFIERS,
@@ -106,7 +118,7 @@ FAULTS = [
           "        ensures grown { result ≡ Err errors.Memory → version_reading text.now ≢ Err NoLeadingNumber }\n", ""),
     Fault("a claim of README.md that says more", None, HELD, "README.md",
           "Every function is proved safe (", "Every function and the toolchain are proved safe ("),
-    Fault("another figure in README.md", None, FIGURES, "README.md", "cores (2.5 GHz) `check` takes ", "cores (2.5 GHz) `check` takes 1"),
+    Fault("another figure in README.md", None, FIGURES, "README.md", "\nOn slow cores (", "\nOn slow cores (1"),
     Fault("a figure in README.md that nobody measured", None, FIGURES,
           "README.md", "`./try` is the toolchain's unproved run", "`./try`, 30 times as fast as `./reqs`, is the toolchain's unproved run"),
     Fault("a figure that README.md doesn't state", None, FIGURES, "bench/figures.json",
@@ -128,8 +140,6 @@ FAULTS = [
           "let mut table = table_of(alloc, requirements, interner, request.limit, request.bounds)?;",
           "let copy = copied_packages(alloc, &requirements, &[])?; "
           "let mut table = table_of(alloc, copy, interner, request.limit, request.bounds)?;"),
-    Fault("a table that keeps its lines twice", None, LENT, "crates/reqtable_table/src/table.rt",
-          "pub(crate) lines: Vec<TableLine>,", "pub(crate) lines: Vec<TableLine>, pub(crate) given: Vec<Given>,"),
     Fault("a list of files that lacks one", None, FILES, "docs/FILES.md", "- `gate/floors.py`: ", "- `gate/floor.py`: "),
     Fault("a crate of another version", None, VERSIONS, "rust/fowlyore/Cargo.toml", '\nversion = "', '\nversion = "1'),
     Fault("a library for C that isn't packed", "reqs_c", PACK, "tools/pack.sh", "set -eu\n", "exit 1\n"),
@@ -161,6 +171,9 @@ def ran(words, room, store):
 
 def judged(fault, is_planted, room):
     """Why the gate isn't as it has to be in a copy with this fault planted, or without it, or None."""
+    misfit = fault.misfit(room) if is_planted else None
+    if misfit:
+        return f"it can't be planted: {misfit}"
     if is_planted:
         fault.plant(room)
     status, said = ran(fault.words, room, default_folder())
@@ -180,7 +193,8 @@ def judged_by_texts(faults):
         yield f"the copy for {faults[0].name}", judged(faults[0], False, room)
         for it in faults:
             yield it.name, judged(it, True, room)
-            shutil.copy2(os.path.join(TOP, it.path), os.path.join(room, it.path))
+            if os.path.isfile(os.path.join(TOP, it.path)):
+                shutil.copy2(os.path.join(TOP, it.path), os.path.join(room, it.path))
 
 
 def judged_by_proofs(faults):
@@ -207,13 +221,19 @@ def groups_of(kind):
     return groups.values()
 
 
+def found(kind):
+    """What each fault of a kind comes to, and each of the store."""
+    of_the_store = () if kind == OF_TEXTS else importlib.import_module("store_faults").told()
+    yield from itertools.chain(told(groups_of(kind)), of_the_store)
+
+
 def main(words):
-    if words not in ([], [OF_TEXTS], [OF_PROOFS]):
+    if words not in ([], [OF_TEXTS], [OF_PROOFS], [FIT]):
         print(__doc__, file=sys.stderr)
         return 2
-    kind, passed, failed = words[0] if words else None, 0, 0
-    of_the_store = () if kind == OF_TEXTS else importlib.import_module("store_faults").told()
-    for name, why in itertools.chain(told(groups_of(kind)), of_the_store):
+    passed, failed = 0, 0
+    of_all = ((it.name, it.misfit(TOP)) for it in FAULTS) if words == [FIT] else found(words[0] if words else None)
+    for name, why in of_all:
         print(f"FAILED: {name}: {why}" if why else f"{name}: as it has to be", flush=True)
         passed, failed = passed + (why is None), failed + (why is not None)
     print(f"{passed} passed, {failed} failed")

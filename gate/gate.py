@@ -29,7 +29,7 @@ import accept
 import keys
 import verdicts
 from crates import TOP, Crates, toolchain_sum
-from faults import OF_PROOFS, OF_TEXTS, groups_of
+from faults import FIT, OF_PROOFS, OF_TEXTS, groups_of
 from sources import sources
 from store import Store
 
@@ -46,7 +46,7 @@ SCRIPTS = {"--wrong": (["wrong.py"], ["mutants.py", "--again"]), "--mutants": ([
 QUESTIONS = "questions"
 # What of tests/ the parts read that run programs.
 OF_REQS = ("alike.py", "cli.sh", "counted.sh", "documented.py", "drawn.py", "ends.c", "ends.py", "help.txt", "install.sh", "numerals.py",
-           "objects.py", "pages", "pairs.py", "refuse.c", "refused.py", "refused.sh", "rows.py", "runs.json", "runs.py", "sizes.py",
+           "objects.py", "once.py", "pages", "pairs.py", "refuse.c", "refused.py", "refused.sh", "rows.py", "runs.json", "runs.py", "sizes.py",
            "try.sh")
 OF_C = ("c", "c.py", "c.sh", "calls.py", "fuzz.py", "objects.py", "refuse.c", "runs.json", "runs.py")
 
@@ -90,6 +90,7 @@ def parts(more):
     return [
         Part("layout", [*python, "gate/layout.py"]),
         Part("wrong edits fit", [*python, "gate/wrong.py", "--texts"]),
+        Part("planted faults fit", [*python, "gate/faults.py", FIT]),
         Part("calls and least counts", [*python, "gate/asked.py"]),
         Part("constants in definitions", [*python, "gate/constants.py"]),
         Part("statements held", [*python, "gate/held.py"]),
@@ -104,6 +105,7 @@ def parts(more):
         Part("command line", ["bash", "tests/cli.sh"], ["reqs_cli"], [*of_reqs, "README.md", "docs"]),
         Part("answers compared", [*python, "tests/alike.py", "1000"], ["reqs_cli"], of_reqs),
         Part("lists compared", [*python, "tests/pairs.py", "500"], ["reqs_cli"], of_reqs),
+        Part("each marker once", [*python, "tests/once.py"], ["reqs_cli"], of_reqs),
         Part("a first answer", ["bash", "tests/try.sh"], [], of_try),
         Part("installing", ["bash", "tests/install.sh"], ["reqs_cli"], of_reqs),
         Part("refused memory", ["bash", "tests/refused.sh"], ["reqs_cli", QUESTIONS], [*of_reqs, *asked]),

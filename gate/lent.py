@@ -1,5 +1,5 @@
 #!/usr/bin/env python3
-"""Sees that calls which crates lend each other are made by these alone, and passed on by nobody, and what a table keeps.
+"""Sees that calls which crates lend each other are made by these alone, and passed on by nobody.
 
     lent.py
 
@@ -8,8 +8,8 @@ crate does. A call that isn't counted is public only since other crates of trees
 requirements gives them away, so that its answers come from the table; a copy of requirements, or a table of some
 that are lent, is for the calls on whole lists. LENT has such calls, each with the crate that has it and those that
 may name it; nobody may pass one on by `pub use`, and no other crate's source may name it. Fails too where one of
-those crates has no use for it. Nor may a table have a copy beside what it needs: KEPT has the fields of its structs.
-Comments, texts and clauses don't count. The last line is `N passed, M failed`, a crate or a struct each.
+those crates has no use for it. Comments, texts and clauses don't count. The last line is `N passed, M failed`, a crate
+each.
 """
 
 import os
@@ -28,17 +28,10 @@ LENT = {
     "conjunction_of_all": ("pep508_conjunctions", ("pep508_marker_parser",)),
     "copied_packages": ("reqtable_requirements", ("reqtable_packages", "reqs_tests")),
     "packages_table": ("reqtable_packages", ("reqtable_conflicts", "reqtable_compare")),
+    "package_count": ("reqtable_table", ("reqs_answers", "reqs_tests")),
+    "row_among": ("reqtable_table", ("reqs_rows",)),
 }
 PASSED_ON = re.compile(r"\bpub use ([^;]+);")
-KEPT = {
-    "reqtable_table": {
-        "Table": "packages: Vec<Package>, slots: usize",
-        "Package": "name: PackageName, cases: Vec<Case>, lines: Vec<TableLine>",
-        "Case": "lines: Vec<usize>, tree: MarkerTree, pre: bool",
-        "TableLine": "number: usize, extras: Vec<ExtraName>, marker: MarkerTree, slot: usize, is_url: bool, "
-                     "is_bounded: bool, specifiers: CountedSpecifiers",
-    },
-}
 
 
 def sources(crate):
@@ -66,20 +59,8 @@ def fault(crate, name, owner, borrowers):
     return f"names {name} in {naming[0]}" if naming else None
 
 
-def other_fields(crate, name, wanted):
-    """What a struct of a crate has in place of these fields, or None where it has just these."""
-    found = re.search(rf"\bstruct {name} \{{(.*?)\}}", " ".join(sources(crate).values()), re.S)
-    fields = re.sub(r"\bpub(\(\w+\))? ", "", " ".join(found[1].split())).rstrip(",") if found else "no such struct"
-    return None if fields == wanted else f"keeps in {name}: {fields}"
-
-
 def main():
     crates, faults, passed = Crates(), [], 0
-    for crate, structs in KEPT.items():
-        for name, wanted in structs.items():
-            why = other_fields(crates[crate], name, wanted)
-            faults += [f"{crate} {why}"] if why else []
-            passed += not why
     for name, (owner, borrowers) in LENT.items():
         for crate in crates.values():
             why = fault(crate, name, owner, borrowers)

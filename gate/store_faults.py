@@ -32,6 +32,16 @@ import seen
 from crates import Crates
 print(seen.by(Crates(), "high"))
 """
+# Prints the sum of what the verdicts on an edit of `low` rest on.
+AROUND = """import sys
+sys.path.insert(0, "gate")
+import around
+from crates import Crates
+from edits import edits_of
+crates = Crates()
+print(around.by(crates, edits_of(crates["low"])[0]["it_is_one_more"]))
+"""
+AN_EDIT = "file: src/lib.rt\nold:     helper(x)\nnew:     helper(x) + 1\ncontrol:     { helper(x) }\n"
 # Two small crates, one over the other.
 HEAD = "//! A crate.\n#![tactic(auto)]\n\nghost use Rattle.std.specs.Prelude.{◌≡◌, ◌≤◌, ◌*◌};\n"
 LOW = f"""{HEAD}
@@ -136,9 +146,9 @@ class TwoCrates:
         status, said = self.proved(low)
         return None if is_well(status, said) else f"status {status}: {said[-300:]}"
 
-    def seen(self):
-        """The sum of what a check of `high` sees."""
-        status, said = ran(["-c", SEEN], self.room, self.folder)
+    def seen(self, script=SEEN):
+        """The sum of what a check of `high` sees, or another that a script prints."""
+        status, said = ran(["-c", script], self.room, self.folder)
         if status:
             raise ValueError(said)
         return said
@@ -215,9 +225,36 @@ def what_a_check_sees():
     return None
 
 
+def what_an_edit_rests_on():
+    """Why the sum of what the verdicts on an edit rest on is the same after a change of its crate that the function which it
+    changes sees, or another after one that it doesn't, or None."""
+    changed = {
+        "another body": (LOW.replace(BODY, "    2 * x\n"), True),
+        "its own body": (LOW.replace("    helper(x)\n", "    let _ = x;\n    helper(x)\n"), False),
+        "a contract": (LOW.replace(CLAUSE, WEAKER), False),
+        "a private contract": (LOW.replace("requires { x ≤ 1000 }\n    ensures { result ≡ 2 * x }\n{\n    x", "{\n    x"), False),
+        "another function": (LOW + OTHER, False),
+        "a comment": (LOW.replace("    helper(x)\n", "    // As said.\n    helper(x)\n"), True),
+    }
+    with tempfile.TemporaryDirectory() as folder, tempfile.TemporaryDirectory(prefix="reqs-faults-") as room:
+        tree = TwoCrates(room, folder)
+        tree.write("tests/wrong/low/it_is_one_more.edit", AN_EDIT)
+        before = tree.seen(AROUND)
+        for name, (text, is_same) in changed.items():
+            tree.write("crates/low/src/lib.rt", text)
+            if text == LOW or (tree.seen(AROUND) == before) != is_same:
+                return f"{name}: {'another' if is_same else 'the same'} sum"
+        tree.write("crates/low/src/lib.rt", LOW)
+        tree.write("crates/low/proofs/Lemmas.antt", "limit : Nat := 1\n")
+        if tree.seen(AROUND) == before:
+            return "a lemma: the same sum"
+    return None
+
+
 def told():
     """The name of each thing that is tried, and why it isn't as it has to be, or None."""
     yield Tried("an entry that is cut short", cut_short())
     yield Tried("a failing test that the store knows otherwise", taken_over())
     yield Tried("what a check sees of the crates below", what_a_check_sees())
+    yield Tried("what the verdict on an edit rests on", what_an_edit_rests_on())
     yield from through_kept_work()

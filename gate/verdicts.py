@@ -12,14 +12,14 @@ import re
 import subprocess
 import sys
 
-import seen
+import around
 from crates import TOP, sum_of_files
 from keys import OF_KEPT, scripts_sum, summed
 
-OF_EDITS = (*OF_KEPT, *(f"gate/{it}.py" for it in ("clauses", "edits", "seen", "wrong")))
+OF_EDITS = (*OF_KEPT, *(f"gate/{it}.py" for it in ("around", "clauses", "edits", "seen", "wrong")))
 OF_PARTS = ("gate/crates.py", "gate/gate.py", "gate/keys.py", "gate/store.py", "gate/verdicts.py")
 # What the parts that run programs call.
-TOOLS = ("ar", "bash", "cargo", "cc", "dpkg", "dpkg-deb", "ld", "mypy", "nm", "objcopy", "rustc", "strip")
+TOOLS = ("ar", "bash", "cargo", "cc", "dpkg", "dpkg-deb", "ld", "mypy", "nm", "objcopy", "rustc", "strip", "valgrind")
 MODULES = "import sys; print(sys.version)", "import pip; print(pip.__version__)", "import distributed; print(distributed.__version__)"
 # What is tried only where somebody has fetched it.
 FETCHED = os.path.join(TOP, "out", "packaging_suite", "source", "packaging-*")
@@ -31,10 +31,9 @@ LOOKS_AT = re.compile(r"\$\{?([A-Z][A-Z0-9_]+)|\benviron(?:\.get\(|\.pop\(|\[)\"
 CALLS = re.compile(r"\$\{?(?:top|here)\}?\"?/(?!crates)([\w./-]*\w)")
 
 
-def of_edit(crates, name, content):
-    """The sum of all that the verdict on an edit of a crate rests on, whose file has this content: of the crates below what a
-    check of the crate sees."""
-    return summed((seen.by(crates, name), hashlib.sha256(content).hexdigest(), scripts_sum(OF_EDITS)))
+def of_edit(crates, edit):
+    """The sum of all that the verdict on an edit of a crate rests on."""
+    return summed((around.by(crates, edit), hashlib.sha256(edit.content).hexdigest(), scripts_sum(OF_EDITS)))
 
 
 def of_part(words, rests_on):

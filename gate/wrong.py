@@ -137,12 +137,14 @@ class Trial:
         self.prover, self.verdicts = prover, verdicts
         self.failing = set()
         self.passed = self.failed = self.taken = self.tried = self.checks = self.ended = 0
-        self.own_sums, self.open = {}, {}
+        self.own_sums, self.open, self.keys = {}, {}, {}
         self.turn, self.began = threading.RLock(), time.monotonic()
 
     def key(self, edit, half):
         """The name of the verdict on an edit or on its control: the sum of all that it rests on."""
-        return f"{verdicts.of_edit(self.prover.crates, edit.crate.name, edit.content)}.{half}"
+        if edit.label not in self.keys:
+            self.keys[edit.label] = verdicts.of_edit(self.prover.crates, edit)
+        return f"{self.keys[edit.label]}.{half}"
 
     def take(self, edit):
         """Takes the verdicts that the store has on an edit and on its control, and says whether it has both."""

@@ -222,10 +222,10 @@ reqs_reply reqs_marker_check(const uint8_t *text, size_t text_len, uint8_t *out,
 
 /* The normal text of a marker: markers with the same meaning have the same, and it is read as a marker with
  * that meaning; empty if the marker always holds. It can be exponentially longer than the marker. Refused
- * with input 1, and start and len 0, if there is no such text: a string that the marker compares with has a
- * single quote ("no normal text: single quote"), it depends on a key with a deprecated name ("no normal text:
- * deprecated key"), it has a version that is more than release numbers of epoch 0 ("no normal text: version
- * bound"), or it never holds ("no normal text: never holds"). */
+ * with input 1, and start and len 0, if there is no such text: the marker depends on a string with a single
+ * quote ("no normal text: single quote") or on a key with a deprecated name ("no normal text: deprecated
+ * key"), it has a version that is more than release numbers of epoch 0 ("no normal text: version bound"), or
+ * it never holds ("no normal text: never holds"). */
 reqs_reply reqs_marker(const uint8_t *text, size_t text_len, size_t nodes, size_t clauses,
                        uint8_t *out, size_t out_len);
 

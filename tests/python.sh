@@ -54,11 +54,32 @@ if ! "${interpreters[$newest]}" "$top/python/extension/build.py" "$extension" 2>
     extension=no
 fi
 
-# Runs the tests by an interpreter, which calls the library by the extension or, where that is `no`, by ctypes.
+# Runs a file of tests by an interpreter, which calls the library by the extension or, where that is `no`, by ctypes.
 run_tests() {
     cd "$top/python" || return
     [ -z "$4" ] || export FOWLYORE_RANDOM=$4
-    FOWLYORE_EXTENSION=$3 FOWLYORE_LIBRARY=$library "$2" -W error -m unittest discover -q -t . -s tests >"$work/said-$1" 2>&1
+    FOWLYORE_EXTENSION=$3 FOWLYORE_LIBRARY=$library "$2" -W error -m unittest -q "tests.$5" >"$work/said-$1/$5" 2>&1
+}
+
+# Begins to run the files of tests by an interpreter, each by itself, as many at a time as there are processors.
+begin_tests() {
+    local file
+    mkdir "$work/said-$1" || return
+    for file in "${files[@]}"; do
+        while [ "$(jobs -pr | wc -l)" -ge "$processors" ]; do
+            wait -n
+        done
+        run_tests "$@" "$file" &
+    done
+}
+
+# The numbers of a kind that the runs of an interpreter told, added up.
+sum_of() {
+    local number total=0
+    for number in $(sed -n "s/$2/\\1/p" "$work/said-$1"/*); do
+        total=$((total + number))
+    done
+    echo "$total"
 }
 
 # Which interpreters are tried.
@@ -80,32 +101,41 @@ if [ "$older" ]; then
     [ ${#asked[@]} -gt 0 ] || finish
 fi
 
-# Interpreters work side by side, and the newest by ctypes too. All but the newest try fewer random texts, unless a number is given.
+# The newest is asked by ctypes too. All but the newest try fewer random texts, unless a number is given. The files that take
+# longest come first.
+processors=$(nproc)
+files=(test_extension test_command test_processes test_properties test_lists)
+for file in "$top"/python/tests/test_*.py; do
+    file=$(basename -- "$file" .py)
+    [[ " ${files[*]} " = *" $file "* ]] || files+=("$file")
+done
 for version in "${asked[@]}"; do
     way=$extension
     [ "${version#*.}" -ge 10 ] || way=no
     few=${FOWLYORE_RANDOM-1000}
     [ "$version" != "$newest" ] || few=${FOWLYORE_RANDOM-}
-    run_tests "$version" "${interpreters[$version]}" "$way" "$few" &
+    begin_tests "$version" "${interpreters[$version]}" "$way" "$few"
 done
 runs=("${asked[@]}")
 if [ "$extension" != no ] && [ -z "$older" ]; then
     runs+=("$newest by ctypes")
-    run_tests "$newest by ctypes" "${interpreters[$newest]}" no "${FOWLYORE_RANDOM-1000}" &
+    begin_tests "$newest by ctypes" "${interpreters[$newest]}" no "${FOWLYORE_RANDOM-1000}"
 fi
 wait
 
 for version in "${runs[@]}"; do
-    said=$work/said-$version
-    count=$(sed -n 's/^Ran \([0-9]*\) tests\? .*/\1/p' "$said")
-    skipped=$(sed -n 's/^OK (.*skipped=\([0-9]*\).*/\1/p' "$said")
-    [ -z "$skipped" ] || echo "not tried: tests by Python $version, of which $skipped were skipped"
-    if tail -n 1 "$said" | grep -q '^OK' && [ "${count:-0}" -gt 0 ]; then
-        passed=$((passed + count))
-    else
-        tail -n 60 "$said"
-        fail "the tests by Python $version"
-    fi
+    skipped=$(sum_of "$version" '^OK (.*skipped=\([0-9]*\).*')
+    [ "$skipped" -eq 0 ] || echo "not tried: tests by Python $version, of which $skipped were skipped"
+    for file in "${files[@]}"; do
+        said=$work/said-$version/$file
+        count=$(sed -n 's/^Ran \([0-9]*\) tests\? .*/\1/p' "$said")
+        if tail -n 1 "$said" | grep -q '^OK' && [ "${count:-0}" -gt 0 ]; then
+            passed=$((passed + count))
+        else
+            tail -n 60 "$said"
+            fail "$file by Python $version"
+        fi
+    done
 done
 # packaging 26.2, which the tests compare with.
 [ "${FOWLYORE_PACKAGING-}" ] ||

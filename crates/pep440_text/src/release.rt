@@ -2,7 +2,7 @@
 //!
 //! A list of candidates is mostly versions, nearly all of which have at most three release numbers. The
 //! smallest heap block for two or three numbers is 32 bytes, so `Release` has a variant for each of these
-//! lengths and one for longer releases: such a version is 112 bytes and allocates nothing.
+//! lengths and one for longer releases: such a version is 120 bytes and allocates nothing.
 
 ghost use Rattle.std.specs.Prelude.{◌≡◌, ◌<◌, length, take, IfOk, IfSome};
 ghost use Rattle.std.specs.Option.{option_map};

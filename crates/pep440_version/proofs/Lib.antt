@@ -7,3 +7,6 @@ pub mod Found
 pub mod Fronts
 pub mod Releases
 pub mod ZerosPrinted
+pub mod PackedOrder
+pub mod Unpacked
+pub mod PlainTexts

@@ -7,6 +7,7 @@ pub use Rattle.pep440_text.specs.Faults
 pub use Rattle.read_outcome.specs.Outcome
 pub mod Order
 pub mod Changes
+pub mod Packing
 pub mod PatternOrder
 pub mod OrderLaws
 pub mod VersionReading

@@ -9,6 +9,7 @@ ghost use Rattle.pep440_text.specs.Print.{version_text};
 ghost use Rattle.pep440_text.specs.Reading.{version_of, pattern_of};
 ghost use Rattle.pep440_version.specs.VersionReading.{version_reading, pattern_reading};
 ghost use Rattle.pep440_version.specs.Order.{key_of, padded_cmp, stripped, version_cmp, version_eq};
+ghost use Rattle.pep440_version.specs.Packing.{Fits, word_of};
 
 /// Versions are equal exactly where their keys are the same, and then they hash alike.
 #[tactic(auto, using(crate::specs::OrderLaws::key_decides))]
@@ -39,4 +40,10 @@ pub fn releases_compare_padded()
 pub fn readings_find_what_texts_are()
     ensures version { (text : List ℕ) → version_of text ≡ result_ok (version_reading text) }
     ensures pattern { (text : List ℕ) → pattern_of text ≡ result_ok (pattern_reading text) }
+{}
+
+/// Versions that have a word, a number of 64 bits, compare as their words do.
+#[tactic(auto, using(crate::proofs::PackedOrder::words_compare))]
+pub fn words_compare_as_versions()
+    ensures { (a b : VersionRecord) → Fits a → Fits b → nat_cmp (word_of a) (word_of b) ≡ version_cmp a b }
 {}

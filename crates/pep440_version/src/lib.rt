@@ -5,8 +5,10 @@
 
 pub mod laws;
 mod ordering;
+mod packing;
 mod parse_error;
 mod pattern;
+mod plain;
 mod print;
 mod range_value;
 mod setters;
@@ -18,3 +20,6 @@ pub use pattern::VersionPattern;
 pub use pep440_text::{LocalSegment, Prerelease, PrereleaseKind};
 pub use read_outcome::FromValueError;
 pub use version::Version;
+
+#[cfg(test)]
+mod tests;

@@ -70,7 +70,7 @@ fn compare_absent_last(a: Option<u64>, b: Option<u64>) -> Ordering
     }
 }
 
-fn rank(kind: PrereleaseKind) -> u64
+pub(crate) fn rank(kind: PrereleaseKind) -> u64
     ensures { result ≡ kind_rank kind }
 {
     match kind {
@@ -171,11 +171,22 @@ impl Version {
 
     /// Compares all but the local parts (PEP 440, "Local version identifiers"). Suffixes are compared only
     /// where epochs and releases are equal.
-    #[tactic(auto, unfolding(crate::specs::Order::key_of))]
+    #[tactic(auto, using(crate::proofs::PackedOrder::public_packed_compare))]
     pub fn cmp_public(&self, other: &Version) -> Ordering
         ensures { result ≡ version_cmp (without_local self.now) (without_local other.now) }
     {
-        let epoch = compare_numbers(self.epoch, other.epoch);
+        match (self.word(), other.word()) {
+            (Some(left), Some(right)) => left.cmp(&right),
+            _ => self.cmp_public_parts(other),
+        }
+    }
+
+    /// Compares all but the local parts, part by part.
+    #[tactic(auto, unfolding(crate::specs::Order::key_of))]
+    fn cmp_public_parts(&self, other: &Version) -> Ordering
+        ensures { result ≡ version_cmp (without_local self.now) (without_local other.now) }
+    {
+        let epoch = compare_numbers(self.epoch(), other.epoch());
         if epoch.is_ne() {
             return epoch;
         }
@@ -189,6 +200,15 @@ impl Version {
         let least = compare_absent_first(self.min(), other.min());
         let dev = compare_absent_last(self.dev(), other.dev());
         class.then(pre.then(post.then(least.then(dev))))
+    }
+
+    /// Compares part by part.
+    #[tactic(auto, using(crate::proofs::Fronts::local_last))]
+    fn cmp_parts(&self, other: &Version) -> Ordering
+        ensures { result ≡ version_cmp self.now other.now }
+    {
+        self.cmp_public_parts(other)
+            .then_with(|| compare_local(self.local(), other.local()))
     }
 }
 
@@ -215,10 +235,12 @@ impl Ord for Version {
 
     ghost matches_eq = { λ x y. refl };
 
-    #[tactic(auto, using(crate::proofs::Fronts::local_last))]
+    #[tactic(auto, using(crate::proofs::PackedOrder::packed_compare))]
     fn cmp(&self, other: &Version) -> Ordering {
-        self.cmp_public(other)
-            .then_with(|| compare_local(&self.local, &other.local))
+        match (self.word(), other.word()) {
+            (Some(word), Some(other_word)) => word.cmp(&other_word),
+            _ => self.cmp_parts(other),
+        }
     }
 }
 
@@ -337,13 +359,13 @@ impl Hash for Version {
 
     #[tactic(auto, unfolding(crate::specs::Order::key_of))]
     fn hash<H: Hasher>(&self, state: &mut H) {
-        feed_number(self.epoch, state);
+        feed_number(self.epoch(), state);
         feed_numbers(without_end_zeros(self.release()), state);
         feed_number(self.class(), state);
         feed_pre(self.pre(), state);
         feed_post(self.post(), self.max(), state);
         feed_absent_first(self.min(), state);
         feed_absent_last(self.dev(), state);
-        feed_local(&self.local, state);
+        feed_local(self.local(), state);
     }
 }

@@ -105,12 +105,12 @@ impl fmt::Display for Version {
 
     #[tactic(auto, unfolding(pep440_text::specs::Print::version_text))]
     fn fmt<W: fmt::Write>(&self, f: &mut fmt::Formatter<W>) -> fmt::Result {
-        write_epoch(self.epoch, f)?;
+        write_epoch(self.epoch(), f)?;
         write_release(self.release(), f)?;
         write_pre(self.pre(), f)?;
         write_numbered(".post", self.post(), f)?;
         write_numbered(".dev", self.dev(), f)?;
-        write_local(&self.local, f)
+        write_local(self.local(), f)
     }
 }
 

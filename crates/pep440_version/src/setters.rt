@@ -5,10 +5,13 @@ ghost use Rattle.std.specs.Option.{option_map};
 ghost use Rattle.pep440_text.specs.Record.{release_record, segment_of, without_local};
 ghost use Rattle.pep440_version.specs.Changes.{early_version, without_end_zeros};
 ghost use Rattle.pep440_text.specs.Releases.{last_raised};
+ghost use Rattle.pep440_version.specs.Packing.{version_by};
 
 use crate::ordering::without_end_zeros;
+use crate::packing::Form;
 use crate::{LocalSegment, Prerelease, PrereleaseKind, Version};
 use pep440_text::release::Release;
+use pep440_text::suffixes::Suffixes;
 use std::alloc::{AllocError, Global};
 
 impl Version {
@@ -31,7 +34,12 @@ impl Version {
     pub fn with_epoch(mut self, epoch: u64) -> Version
         ensures { result ≡ record self { epoch = epoch } }
     {
-        self.epoch = epoch;
+        self.form = Form::new(
+            epoch,
+            self.release.numbers(),
+            self.form.suffixes(),
+            &self.local,
+        );
         self
     }
 
@@ -41,14 +49,29 @@ impl Version {
         ensures { IfOk result (λ version. version ≡ record self { release = release.now }) }
     {
         self.release = Release::from_slice(alloc, release)?;
+        self.form = self.form.with(self.release.numbers(), &self.local);
         Ok(self)
+    }
+
+    /// Overwrites the suffixes and marks.
+    fn set_suffixes(&mut self, suffixes: Suffixes)
+        ensures { self.new ≡ version_by self.old.epoch self.old.release suffixes self.old.local }
+    {
+        self.form = Form::new(
+            self.form.epoch(),
+            self.release.numbers(),
+            suffixes,
+            &self.local,
+        );
     }
 
     /// Returns the version with another pre-release, or none.
     pub fn with_pre(mut self, pre: Option<Prerelease>) -> Version
         ensures { result ≡ record self { pre = pre } }
     {
-        self.suffixes.set_pre(pre);
+        let mut suffixes = self.form.suffixes();
+        suffixes.set_pre(pre);
+        self.set_suffixes(suffixes);
         self
     }
 
@@ -56,7 +79,9 @@ impl Version {
     pub fn with_post(mut self, post: Option<u64>) -> Version
         ensures { result ≡ record self { post = post } }
     {
-        self.suffixes.set_post(post);
+        let mut suffixes = self.form.suffixes();
+        suffixes.set_post(post);
+        self.set_suffixes(suffixes);
         self
     }
 
@@ -64,7 +89,9 @@ impl Version {
     pub fn with_dev(mut self, dev: Option<u64>) -> Version
         ensures { result ≡ record self { dev = dev } }
     {
-        self.suffixes.set_dev(dev);
+        let mut suffixes = self.form.suffixes();
+        suffixes.set_dev(dev);
+        self.set_suffixes(suffixes);
         self
     }
 
@@ -73,6 +100,7 @@ impl Version {
         ensures { result ≡ record self { local = map segment_of local.items } }
     {
         self.local = local;
+        self.form = self.form.with(self.release.numbers(), &self.local);
         self
     }
 
@@ -81,6 +109,7 @@ impl Version {
         ensures { result ≡ without_local self }
     {
         self.local.clear();
+        self.form = self.form.with(self.release.numbers(), &self.local);
         self
     }
 
@@ -91,7 +120,9 @@ impl Version {
         requires dev { self.dev ≡ None }
         ensures { result ≡ record self { least = min } }
     {
-        self.suffixes.set_least(min);
+        let mut suffixes = self.form.suffixes();
+        suffixes.set_least(min);
+        self.set_suffixes(suffixes);
         self
     }
 
@@ -102,7 +133,9 @@ impl Version {
         requires dev { self.dev ≡ None }
         ensures { result ≡ record self { most = max } }
     {
-        self.suffixes.set_most(max);
+        let mut suffixes = self.form.suffixes();
+        suffixes.set_most(max);
+        self.set_suffixes(suffixes);
         self
     }
 
@@ -114,7 +147,7 @@ impl Version {
     {
         let suffixed = self.is_pre() || self.is_post() || self.is_dev() || self.is_local();
         let at_end = self.min().is_some() || self.max().is_some();
-        self.epoch == 0 && !suffixed && !at_end
+        self.epoch() == 0 && !suffixed && !at_end
     }
 
     /// Returns the version without the zeros at its release's end, down to one number, as `1.2` for
@@ -126,6 +159,7 @@ impl Version {
     {
         let count = without_end_zeros(self.release()).len();
         self.release = self.release.truncated(count.max(1));
+        self.form = self.form.with(self.release.numbers(), &self.local);
         self
     }
 
@@ -136,6 +170,7 @@ impl Version {
             ≡ option_map (λ numbers. record self { release = numbers }) (last_raised self.release) }
     {
         self.release = self.release.with_last_raised()?;
+        self.form = self.form.with(self.release.numbers(), &self.local);
         Some(self)
     }
 

@@ -1,7 +1,8 @@
 //! Versions.
 //!
 //! Every version has a release number. This is an invariant of `Version`, so the last number can always be
-//! raised, or is refused as `NumberAtEnd`.
+//! raised, or is refused as `NumberAtEnd`. The other invariant is that a version is packed exactly where it
+//! has a word (`packing`), so its form follows from its parts, however it was made.
 
 ghost use Rattle.std.specs.Prelude.{◌≡◌, ◌≢◌, ◌<◌, length, map, not, is_some, IfOk, Err};
 ghost use Rattle.pep440_text.specs.Record.{VersionRecord, release_record, said, segment_of};
@@ -10,11 +11,13 @@ ghost use Rattle.pep440_version.specs.declared.parse_error.VersionParseError.The
 ghost use Rattle.pep440_version.specs.VersionReading.{NoLeadingNumber, version_reading, told_version};
 ghost use Rattle.pep440_text.specs.Releases.{numbers_of};
 ghost use Rattle.pep440_version.specs.Changes.{is_prerelease, has_local};
+ghost use Rattle.pep440_version.specs.Packing.{packed};
 
+use crate::packing::Form;
+use crate::plain::plain_release;
 use crate::{LocalSegment, Prerelease, VersionParseError};
 use pep440_text::VersionParts;
 use pep440_text::release::Release;
-use pep440_text::suffixes::Suffixes;
 use std::alloc::{AllocError, Global};
 use std::marker::Model;
 
@@ -25,31 +28,23 @@ use std::marker::Model;
 /// versions.
 #[derive(Drop)]
 pub struct Version {
-    pub(crate) epoch: u64,
     pub(crate) release: Release,
-    pub(crate) suffixes: Suffixes,
     pub(crate) local: Vec<LocalSegment>,
+    pub(crate) form: Form,
 }
 
 impl Model for Version {
-    ghost use Rattle.std.specs.Prelude.{◌<◌, length, map};
+    ghost use Rattle.std.specs.Prelude.{◌≡◌, ◌<◌, length, map};
     ghost use Rattle.pep440_text.specs.Record.{VersionRecord, segment_of};
     ghost use Rattle.pep440_text.specs.Releases.{numbers_of};
+    ghost use Rattle.pep440_version.specs.Packing.{word_in, packed, formed};
 
     ghost Value = { VersionRecord };
 
-    ghost view = { λ v. record {
-      epoch = v.epoch;
-      release = numbers_of v.release;
-      pre = v.suffixes.pre;
-      post = v.suffixes.post;
-      dev = v.suffixes.dev;
-      local = map segment_of v.local.items;
-      least = v.suffixes.least;
-      most = v.suffixes.most;
-    } };
+    ghost view = { λ v. formed v.form (numbers_of v.release) (map segment_of v.local.items) };
 
-    ghost invariant = { λ v. 0 < length (numbers_of v.release) };
+    ghost invariant = { λ v. (0 < length (numbers_of v.release))
+        × (word_in v.form ≡ packed (formed v.form (numbers_of v.release) (map segment_of v.local.items))) };
 }
 
 impl Version {
@@ -65,8 +60,9 @@ impl Version {
     /// Reads a version, as `1!2.0rc1.post2.dev3+ubuntu.1`: letters in either case, every spelling that PEP
     /// 440 normalizes ("Normalization"), and ASCII white space around it.
     ///
-    /// Linear in the text; takes memory for the numbers of the release and the segments of the local part,
-    /// and for the texts in the error. Where no number begins the release, nothing is allocated.
+    /// Linear in the text. At most three release numbers without any other part take no memory; otherwise it
+    /// takes memory for the numbers of the release, the segments of the local part, and the texts in the
+    /// error. Where no number begins the release, nothing is allocated.
     ///
     /// # Errors
     /// The first fault from the left, where the text is not a version; `Memory` where memory ran out.
@@ -74,7 +70,11 @@ impl Version {
         ensures answered { Answers (λ version. version) told_version result (version_reading text.now) }
         ensures grown { result ≡ Err errors.Memory → version_reading text.now ≢ Err NoLeadingNumber }
     {
-        match pep440_text::read_version(alloc, text.as_bytes()) {
+        let bytes = text.as_bytes();
+        if let Some(release) = plain_release(bytes) {
+            return Ok(Version::of_release(alloc, release));
+        }
+        match pep440_text::read_version(alloc, bytes) {
             Ok(parts) => Ok(Version::of_parts(parts)),
             Err(error) => Err(VersionParseError::of_reading(alloc, text, error)),
         }
@@ -85,11 +85,20 @@ impl Version {
         requires { 0 < length parts.release.items }
         ensures { result ≡ said parts }
     {
+        let VersionParts {
+            epoch,
+            release,
+            pre,
+            post,
+            dev,
+            local,
+        } = parts;
+        let release = Release::from_vec(release);
+        let form = Form::of_text(epoch, release.numbers(), pre, post, dev, &local);
         Version {
-            epoch: parts.epoch,
-            release: Release::from_vec(parts.release),
-            suffixes: Suffixes::new(parts.pre, parts.post, parts.dev),
-            local: parts.local,
+            release,
+            local,
+            form,
         }
     }
 
@@ -97,12 +106,20 @@ impl Version {
         requires { 0 < length (numbers_of release) }
         ensures { result ≡ release_record (numbers_of release) }
     {
+        let local = Vec::new(alloc);
+        let form = Form::of_text(0, release.numbers(), None, None, None, &local);
         Version {
-            epoch: 0,
             release,
-            suffixes: Suffixes::absent(),
-            local: Vec::new(alloc),
+            local,
+            form,
         }
+    }
+
+    /// Returns the word, where the version has one: versions that have words compare as these do.
+    pub(crate) fn word(&self) -> Option<u64>
+        ensures { result ≡ packed self.now }
+    {
+        self.form.word()
     }
 
     /// Returns a copy, in memory of its own.
@@ -110,10 +127,9 @@ impl Version {
         ensures { IfOk result (λ copy. copy ≡ self.now) }
     {
         Ok(Version {
-            epoch: self.epoch,
             release: Release::from_slice(alloc, self.release.numbers())?,
-            suffixes: self.suffixes.copied(),
             local: copy_segments(alloc, &self.local)?,
+            form: self.form.copied(),
         })
     }
 
@@ -121,7 +137,7 @@ impl Version {
     pub fn epoch(&self) -> u64
         ensures { result ≡ self.now.epoch }
     {
-        self.epoch
+        self.form.epoch()
     }
 
     /// Returns the release numbers, with the zeros at their end that were given (PEP 440, "Final
@@ -137,14 +153,14 @@ impl Version {
     pub fn pre(&self) -> Option<Prerelease>
         ensures { result ≡ self.now.pre }
     {
-        self.suffixes.pre()
+        self.form.pre()
     }
 
     /// Returns the number of the post-release, where the version is one (PEP 440, "Post-releases").
     pub fn post(&self) -> Option<u64>
         ensures { result ≡ self.now.post }
     {
-        self.suffixes.post()
+        self.form.post()
     }
 
     /// Returns the number of the developmental release, where the version is one (PEP 440, "Developmental
@@ -152,7 +168,7 @@ impl Version {
     pub fn dev(&self) -> Option<u64>
         ensures { result ≡ self.now.dev }
     {
-        self.suffixes.dev()
+        self.form.dev()
     }
 
     /// Returns the segments of the local part; none where there is no local part (PEP 440, "Local version
@@ -168,7 +184,7 @@ impl Version {
     pub fn min(&self) -> Option<u64>
         ensures { result ≡ self.now.least }
     {
-        self.suffixes.least()
+        self.form.min()
     }
 
     /// Returns the mark by which the version sorts above every post-release of its release, as the upper
@@ -176,7 +192,7 @@ impl Version {
     pub fn max(&self) -> Option<u64>
         ensures { result ≡ self.now.most }
     {
-        self.suffixes.most()
+        self.form.max()
     }
 
     /// Returns whether the version is a pre-release or a developmental release.
@@ -197,21 +213,21 @@ impl Version {
     pub fn is_pre(&self) -> bool
         ensures { result ≡ is_some self.now.pre }
     {
-        self.suffixes.pre().is_some()
+        self.form.pre().is_some()
     }
 
     /// Returns whether the version is a developmental release (PEP 440, "Developmental releases").
     pub fn is_dev(&self) -> bool
         ensures { result ≡ is_some self.now.dev }
     {
-        self.suffixes.dev().is_some()
+        self.form.dev().is_some()
     }
 
     /// Returns whether the version is a post-release (PEP 440, "Post-releases").
     pub fn is_post(&self) -> bool
         ensures { result ≡ is_some self.now.post }
     {
-        self.suffixes.post().is_some()
+        self.form.post().is_some()
     }
 
     /// Returns whether the version has a local part (PEP 440, "Local version identifiers").

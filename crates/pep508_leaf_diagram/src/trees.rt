@@ -184,8 +184,7 @@ fn push_trees(
         return Ok(());
     }
     if from + 1 == to {
-        let tree = leaf_tree(alloc, interner, count, nodes, root, from)?;
-        trees.push(tree)?;
+        trees.push(leaf_tree(alloc, interner, count, nodes, root, from)?)?;
         return Ok(());
     }
     let middle = from + (to - from) / 2;
@@ -220,8 +219,7 @@ fn push_trees(
         middle,
         to,
         trees,
-    )?;
-    Ok(())
+    )
 }
 
 /// Returns for each leaf of a diagram, in the order of their numbers, the tree that holds where it is

@@ -5,3 +5,4 @@ pub mod Steps
 pub mod Again
 pub mod Escaped
 pub mod Forms
+pub mod AsciiNames

@@ -220,20 +220,23 @@ fn normalized(alloc: Global, text: &str) -> Result<String, AllocError>
     requires { IsTrue (is_name text.now) }
     ensures { IfOk result (λ name. string_bytes name ≡ normal_name text.now) }
 {
-    let mut name = String::with_capacity(alloc, text.len())?;
+    let mut name = Vec::with_capacity(alloc, text.len())?;
     let mut separated = false;
     for byte in text.as_bytes() {
         if is_separator(*byte) {
             separated = true;
         } else {
             if separated {
-                name.push('-')?;
+                name.push(b'-')?;
             }
-            name.push(char::from(byte.to_ascii_lowercase()))?;
+            name.push(byte.to_ascii_lowercase())?;
             separated = false;
         }
     }
-    Ok(name)
+    match String::from_utf8(name) {
+        Ok(name) => Ok(name),
+        Err(_) => unreachable!(),
+    }
 }
 
 /// Returns the text with `_` for each `-`.

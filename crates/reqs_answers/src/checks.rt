@@ -1,7 +1,7 @@
 //! `check`: the answer for one environment.
 //!
-//! Candidates are judged while they are read, so no list of them is kept. Which rows are answered is stated by
-//! the list all the same.
+//! Candidates are judged while they are read, so no list of them is kept. Which rows are answered is stated
+//! by the list all the same.
 //!
 //! `check` and `matrix` read requirements, extras and candidates by one definition (`texts_of`), whose
 //! parameter is what the second text is.

@@ -43,6 +43,7 @@ use reqs_rows::RowTexts;
 use reqtable_answer::Admission;
 use reqtable_candidates::Candidates;
 use reqtable_requirements::Requirements;
+use reqtable_table::lent::package_count;
 use reqtable_table::{Runs, Table, TableError};
 use std::alloc::{AllocError, Global};
 use std::io::{Read, Write};
@@ -93,6 +94,7 @@ pub fn matrix<L: Read, E: Read, C: Read, W: Write>(
 {
     let mut interner = Interner::new(alloc);
     let none = Bounds::none();
+    // (says that there are no more nodes than a number can count)
     let _ = interner.node_count();
     match matrix_within(
         alloc,
@@ -141,9 +143,9 @@ pub fn matrix_within<L: Read, E: Read, C: Read, W: Write>(
     output: &mut W,
 ) -> Result<Status, RunFault>
     requires { length interner.old.nodes ≤ bounds.nodes }
-    ensures runs { RunsMatrixWithin bounds interner.new.nodes format limit vars.now (map (λ e. e.now) extras.now)
-        (L.remaining requirements.old) (E.remaining environments.old) (C.remaining candidates.old)
-        W.contents output.old output.new result }
+    ensures runs { RunsMatrixWithin bounds interner.new.nodes format limit vars.now
+        (map (λ e. e.now) extras.now) (L.remaining requirements.old) (E.remaining environments.old)
+        (C.remaining candidates.old) W.contents output.old output.new result }
     // A refused command has written nothing.
     ensures unwritten { IfErr result (λ fault. fault ≢ RunFault.Write → output.new ≡ output.old) }
 {
@@ -454,7 +456,7 @@ fn answers_among<F: Fn(&Version, bool) -> bool>(
 {
     let room = environments
         .len()
-        .saturating_mul(table.len().saturating_add(1));
+        .saturating_mul(package_count(table).saturating_add(1));
     let mut text = Pieces::new(alloc, room);
     let mut rows = RowTexts::new(alloc);
     for (place, environment) in environments.iter().enumerate() {

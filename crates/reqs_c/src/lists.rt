@@ -1,8 +1,8 @@
 //! Lists of requirements: the commands of `reqs`, whose answers are text.
 //!
-//! `nodes` is the number of nodes that the trees of a call's markers may have together, `clauses` the number of
-//! clauses that a printed marker may have, and `cases` the number of cases that all packages of a list may have
-//! together; `usize::MAX` and `u64::MAX` are no bound.
+//! `nodes` is the number of nodes that the trees of a call's markers may have together, `clauses` the number
+//! of clauses that a printed marker may have, and `cases` the number of cases that all packages of a list may
+//! have together; `usize::MAX` and `u64::MAX` are no bound.
 
 ghost use Rattle.reqs_c_reply.specs.Endings.{RepliesAs};
 ghost use Rattle.reqs_c_lists.specs.Commands.{CheckEnds, MatrixEnds, SameEnds, ConflictsEnd, NormalEnds};

@@ -1,7 +1,7 @@
 //! Markers (PEP 508, "Environment Markers").
 //!
-//! `nodes` is the number of nodes that the trees of a call's markers may have together, and `clauses` the number
-//! of clauses that a printed marker may have; `usize::MAX` is no bound.
+//! `nodes` is the number of nodes that the trees of a call's markers may have together, and `clauses` the
+//! number of clauses that a printed marker may have; `usize::MAX` is no bound.
 
 ghost use Rattle.reqs_c_reply.specs.Endings.{RepliesAs};
 ghost use Rattle.reqs_c_markers.specs.Markers.{CheckedEnds, MarkerEnds};

@@ -23,8 +23,9 @@ use std::alloc::Global;
 /// # Errors
 ///
 /// Refuses, in this order: a text that is not a marker; a marker with more nodes than the bound; the first
-/// extra that is not a name; more nodes, once it is simplified; and a simplified marker without a normal text,
-/// or with more clauses than the bound, as `reqs_c_markers::marker` does. Status 3 when memory runs out.
+/// extra that is not a name; more nodes, once it is simplified; and a simplified marker without a normal
+/// text, or with more clauses than the bound, as `reqs_c_markers::marker` does. Status 3 when memory runs
+/// out.
 pub fn marker_simplify_extras(
     alloc: Global,
     bytes: &[u8],

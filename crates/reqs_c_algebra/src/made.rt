@@ -11,8 +11,8 @@ use std::alloc::Global;
 
 /// Replies with the normal text of the negation of a marker: it holds exactly where the marker doesn't.
 ///
-/// Needs time and memory for as many nodes and clauses as `bounds` allow, and both may grow exponentially with
-/// the text.
+/// Needs time and memory for as many nodes and clauses as `bounds` allow, and both may grow exponentially
+/// with the text.
 ///
 /// # Errors
 ///

@@ -18,8 +18,8 @@ use std::alloc::{AllocError, Global};
 /// Replies with `1` if both markers hold together under no valuation, and so in no environment with any
 /// extras, otherwise with `0`.
 ///
-/// The trees of both markers may have at most `nodes` nodes together, and may otherwise grow exponentially with
-/// the texts. Visits pairs of a node of one marker's tree and a node of the other's, each at most once.
+/// The trees of both markers may have at most `nodes` nodes together, and may otherwise grow exponentially
+/// with the texts. Visits pairs of a node of one marker's tree and a node of the other's, each at most once.
 ///
 /// # Errors
 ///

@@ -19,14 +19,14 @@ use std::alloc::Global;
 /// bounds the text holds exactly where the marker does, and it tests `python_full_version` no more than that
 /// needs.
 ///
-/// Compares each boundary of a version of Python with both bounds. Needs time and memory for as many nodes and
-/// clauses as `bounds` allow, and both may grow exponentially with the text.
+/// Compares each boundary of a version of Python with both bounds. Needs time and memory for as many nodes
+/// and clauses as `bounds` allow, and both may grow exponentially with the text.
 ///
 /// # Errors
 ///
 /// Refuses, in this order: a text that is not a marker; a marker with more nodes than the bound; a bound that
-/// is not a version; more nodes, once it is simplified; and a simplified marker without a normal text, or with
-/// more clauses than the bound, as `reqs_c_markers::marker` does. Status 3 when memory runs out.
+/// is not a version; more nodes, once it is simplified; and a simplified marker without a normal text, or
+/// with more clauses than the bound, as `reqs_c_markers::marker` does. Status 3 when memory runs out.
 pub fn marker_simplify_python(
     alloc: Global,
     bytes: &[u8],

@@ -1,7 +1,6 @@
 -- How a call that runs a command on texts ends: as the command ends on readers of them.
 use Rattle.std.specs.Prelude.{◌≡◌, ◌<◌, ◌⊎◌, ℕ, true, List, [], ◌∷◌, length, take, codes, Result, Ok, Err}
 use Rattle.std.specs.Str.{is_utf8}
-use Rattle.reqs_io.specs.declared.TheConstants.{INPUT_LIMIT}
 use Rattle.reqs_io_faults.specs.declared.fault.RunFault.{RunFault}
 use Rattle.reqs_io_faults.specs.declared.fault.RunFault.TheVariants.{TooLong}
 use Rattle.reqs_io_faults.specs.declared.fault.Status.{Status}
@@ -9,6 +8,7 @@ use Rattle.reqs_io_faults.specs.declared.fault.Status.TheVariants as status
 use Rattle.reqs_io_faults.specs.Ends.{Answering, Refusing, AreWithin, place_of, of_input}
 use Rattle.reqs_json.specs.declared.format.Format.{Format}
 use Rattle.reqs_io_faults.specs.declared.bounds.Bounds.{Bounds}
+use Rattle.reqs_io_faults.specs.Inputs.{input_limit}
 use Rattle.reqs_io_faults.specs.Within.{RefusesOr}
 use Rattle.reqs_lists.specs.Comparison.{SameAnswersWithin, SamePasses, SameRefusesWithin}
 use Rattle.reqs_lists.specs.Contradictions.{ConflictsAnswerWithin, ConflictsPass, ConflictsRefuseWithin}
@@ -29,7 +29,7 @@ use Rattle.reqs_c_lists.specs.Refusals.{IsToldAt}
 -- is, and they are invalid
 abbrev pub RefusesInputs : Refusing → List (List ℕ) → RunFault → Type 0
 RefusesInputs Refuses inputs (TooLong input) =
-    AreWithin (take (place_of input) inputs) × (INPUT_LIMIT < length (of_input inputs input))
+    AreWithin (take (place_of input) inputs) × (input_limit < length (of_input inputs input))
 RefusesInputs Refuses inputs fault = AreWithin inputs × Refuses inputs fault
 
 -- how a command on these inputs ends, by what it may answer and the faults for which it may refuse them,

@@ -112,9 +112,9 @@ fn checked_with(
     ended(alloc, ran, text, &CHECK_NAMES, EXTRAS)
 }
 
-/// Replies with what `reqs::matrix` writes in this format, with at most `limit` cases for a package and within
-/// the bounds, of which those on nodes and cases matter. `extras` has one extra per line; empty lines are
-/// skipped. Needs memory for copies of the inputs, in addition to what the command needs.
+/// Replies with what `reqs::matrix` writes in this format, with at most `limit` cases for a package and
+/// within the bounds, of which those on nodes and cases matter. `extras` has one extra per line; empty lines
+/// are skipped. Needs memory for copies of the inputs, in addition to what the command needs.
 ///
 /// # Errors
 ///

@@ -23,14 +23,14 @@ const LIST_NAMES: [&str; 1] = ["requirements"];
 /// The number of the argument with the extras where there is none.
 const NO_EXTRAS: u32 = 0;
 
-/// Replies with what `reqs::same` writes in this format, with at most `limit` cases for a package and within the
-/// bounds. Ends with `Ended::Different` for lists that don't require the same. Needs memory for copies of the
-/// lists, in addition to what the command needs.
+/// Replies with what `reqs::same` writes in this format, with at most `limit` cases for a package and within
+/// the bounds. Ends with `Ended::Different` for lists that don't require the same. Needs memory for copies of
+/// the lists, in addition to what the command needs.
 ///
 /// # Errors
 ///
-/// Refuses what `reqs_lists::same_within` does, with its message as text and the place of what is wrong. Status
-/// 3 when memory runs out.
+/// Refuses what `reqs_lists::same_within` does, with its message as text and the place of what is wrong.
+/// Status 3 when memory runs out.
 pub fn same(
     alloc: Global,
     left: &[u8],
@@ -93,8 +93,8 @@ fn compared_with(
 }
 
 /// Replies with what `reqs::conflicts` writes in this format, with at most `limit` cases for a package and
-/// within the bounds, of which those on nodes and cases matter. Needs memory for a copy of the list, in addition
-/// to what the command needs.
+/// within the bounds, of which those on nodes and cases matter. Needs memory for a copy of the list, in
+/// addition to what the command needs.
 ///
 /// # Errors
 ///

@@ -25,8 +25,8 @@ use reqs_c_reply::{Ended, Reply, text_of};
 use std::alloc::{AllocError, Global};
 use std::str;
 
-/// Replies with an empty text if a text is a marker (PEP 508, "Environment Markers"). Makes no tree: linear in
-/// the text, except that n versions which a key is compared with at once need O(n log n) comparisons.
+/// Replies with an empty text if a text is a marker (PEP 508, "Environment Markers"). Makes no tree: linear
+/// in the text, except that n versions which a key is compared with at once need O(n log n) comparisons.
 ///
 /// # Errors
 ///
@@ -51,14 +51,14 @@ fn checked(alloc: Global, bytes: &[u8]) -> Ended
 /// same valuations have the same, and it can be read as such a marker. It is empty if the marker always
 /// holds.
 ///
-/// Needs time and memory for as many nodes and clauses as `bounds` allow, and both may grow exponentially with
-/// the text.
+/// Needs time and memory for as many nodes and clauses as `bounds` allow, and both may grow exponentially
+/// with the text.
 ///
 /// # Errors
 ///
 /// Refuses, in this order: a text that is not a marker, at the byte where it stops being one; a marker whose
-/// tree needs more nodes than the bound; one without a normal text, with the first cause of `TextFault`, in the
-/// order of its variants; and one with more clauses than the bound. Status 3 when memory runs out.
+/// tree needs more nodes than the bound; one without a normal text, with the first cause of `TextFault`, in
+/// the order of its variants; and one with more clauses than the bound. Status 3 when memory runs out.
 pub fn marker(alloc: Global, bytes: &[u8], bounds: Bounds, out: &mut [u8]) -> Reply
     ensures { RepliesAs (MarkerEnds bounds bytes.now) out.old out.new result }
 {
@@ -80,8 +80,8 @@ fn own_text(alloc: Global, bytes: &[u8], bounds: Bounds) -> Ended
 ///
 /// # Errors
 ///
-/// How the call ends: refused at argument `input` if it is not a marker, and then if the interner has more than
-/// `most` nodes; or out of memory.
+/// How the call ends: refused at argument `input` if it is not a marker, and then if the interner has more
+/// than `most` nodes; or out of memory.
 pub fn read_marker(
     alloc: Global,
     interner: &mut Interner,

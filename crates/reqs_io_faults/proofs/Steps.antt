@@ -5,7 +5,6 @@ use Rattle.std.proofs.Common.{Option, Some, None, Result, Ok, Err}
 use Rattle.std.specs.List.{AllZip}
 use Rattle.read_outcome.specs.Outcome.{Tells}
 use Rattle.pep508_url.specs.Vars.{Variables}
-use Rattle.reqs_io.specs.declared.TheConstants.{INPUT_LIMIT}
 use Rattle.reqs_io.specs.Front.{AreAsTold}
 use Rattle.reqtable_candidates.specs.declared.candidates.CandidatesError.{CandidatesError}
 use Rattle.reqtable_candidates.specs.declared.candidates.CandidatesError.TheVariants as candidates
@@ -23,7 +22,7 @@ use Rattle.reqs_io_faults.specs.declared.fault.Input.TheVariants.{First, Second,
 use Rattle.reqs_io_faults.specs.declared.fault.Status.{Status}
 use Rattle.reqs_io_faults.specs.Faults.{Cause, Says, told_run, of_requirements, of_candidates, requirements_cause}
 use Rattle.reqs_io_faults.specs.Faults.{Refuses, IsOfInputs, IsExcess, IsPlain, IsOfTexts}
-use Rattle.reqs_io_faults.specs.Inputs.{◌>>=◌, with_cause, IsWithin, ReadsInput}
+use Rattle.reqs_io_faults.specs.Inputs.{◌>>=◌, with_cause, IsWithin, ReadsInput, input_limit}
 use Rattle.reqs_io_faults.specs.Ends.{Answering, Refusing, AreWithin, place_of, of_input, EndsAs, Runs}
 use Rattle.reqs_io_faults.specs.Ends.{WritesAnswer}
 use Rattle.reqs_io_faults.proofs.Reading.{some_bytes, as_told}
@@ -94,8 +93,8 @@ module _ {W : Type 0} (Answers : Answering) (Refused : Refusing) (contents : W �
   unread view input told (TooLong long) h inputs before there =
       let bytes = h.1.0 in
       let P : Input → Type 0 =
-      λ i. AreWithin (take (place_of i) (inputs bytes)) × (INPUT_LIMIT < length (of_input (inputs bytes) i)) in
-      let Q : List ℕ → Type 0 = λ b. INPUT_LIMIT < length b in
+      λ i. AreWithin (take (place_of i) (inputs bytes)) × (input_limit < length (of_input (inputs bytes) i)) in
+      let Q : List ℕ → Type 0 = λ b. input_limit < length b in
       (bytes, h.1.1, subst P (sym h.0) (before bytes, subst Q (sym (there bytes)) h.1.2))
   unread view input told Memory h inputs before there = (some_bytes told, as_told told, tt)
   unread view input told fault h inputs before there = absurd h

@@ -1,14 +1,13 @@
 -- How a command ends, whatever its inputs and its answers are.
 use Rattle.std.specs.Prelude.{◌≡◌, ◌<◌, ℕ, List, [], length, take, get_or, Option, Result, Ok, Err}
 use Rattle.std.specs.List.{AllByRecursion, AllZip}
-use Rattle.reqs_io.specs.declared.TheConstants.{INPUT_LIMIT}
 use Rattle.reqs_io.specs.Front.{AreAsTold, WritesWhole, AppendsFront}
 use Rattle.reqs_io_faults.specs.declared.fault.Input.{Input}
 use Rattle.reqs_io_faults.specs.declared.fault.Input.TheVariants.{First, Second, Third}
 use Rattle.reqs_io_faults.specs.declared.fault.RunFault.{RunFault}
 use Rattle.reqs_io_faults.specs.declared.fault.RunFault.TheVariants.{Read, Write, Memory, TooLong}
 use Rattle.reqs_io_faults.specs.declared.fault.Status.{Status}
-use Rattle.reqs_io_faults.specs.Inputs.{IsWithin}
+use Rattle.reqs_io_faults.specs.Inputs.{IsWithin, input_limit}
 
 -- the place of an input on the command line, from 0
 abbrev pub place_of : Input → ℕ
@@ -42,7 +41,7 @@ EndsAs Answers Refused inputs contents old new (Ok status) =
     AreWithin inputs × ((text : List ℕ) × Answers inputs status text × WritesWhole contents old new text)
 EndsAs Answers Refused inputs contents old new (Err (Read input)) = AreWithin (take (place_of input) inputs)
 EndsAs Answers Refused inputs contents old new (Err (TooLong input)) =
-    AreWithin (take (place_of input) inputs) × (INPUT_LIMIT < length (of_input inputs input))
+    AreWithin (take (place_of input) inputs) × (input_limit < length (of_input inputs input))
 EndsAs Answers Refused inputs contents old new (Err Write) =
     AreWithin inputs × ((status : Status) × (text : List ℕ) × Answers inputs status text
     × AppendsFront (contents old) (contents new) text)

@@ -23,7 +23,8 @@ use Rattle.reqs_io_faults.specs.declared.fault.RunFault.TheVariants.{Shape}
 use Rattle.reqs_io_faults.specs.declared.fault.RunFault.TheVariants.{Member, Version, Candidate, TooManyCases}
 use Rattle.reqs_io_faults.specs.declared.fault.RunFault.TheVariants.{Refused, TooMany}
 use Rattle.reqs_io_faults.specs.declared.bounds.Excess.{Excess}
-use Rattle.reqs_io_faults.specs.declared.bounds.Excess.TheVariants.{NodesAt, Nodes, ClausesAt, ClausesFor, Cases}
+use Rattle.reqs_io_faults.specs.declared.bounds.Excess.TheVariants.{NodesAt, Nodes, ClausesAt}
+use Rattle.reqs_io_faults.specs.declared.bounds.Excess.TheVariants.{ClausesFor, Cases}
 
 -- an input, by its place on the command line
 abbrev pub input_words : Input → List ℕ

@@ -23,19 +23,21 @@ use Rattle.reqs_io_faults.specs.declared.fault.RunFault.TheVariants.{Read, TooLo
 use Rattle.reqs_io_faults.specs.declared.fault.RunFault.TheVariants.{Json, Float, Shape}
 use Rattle.reqs_io_faults.specs.Faults.{Cause, Says, of_environment, of_candidates, requirements_cause}
 use Rattle.reqs_io_faults.specs.Faults.{IsOfTexts, Refuses}
-use Rattle.reqs_io.specs.declared.TheConstants.{INPUT_LIMIT}
 use Rattle.reqs_io.specs.Front.{AreAsTold, MayBeLonger}
 
--- an input of at most 16,777,216 bytes
+-- the greatest length of an input, in bytes
+abbrev pub input_limit : ℕ
+input_limit = 16777216
+
 abbrev pub IsWithin : List ℕ → Type 0
-IsWithin bytes = length bytes ≤ INPUT_LIMIT
+IsWithin bytes = length bytes ≤ input_limit
 
 -- an input is read whole, as the bytes that its reader has, and within its limit; or its reader failed, or
 -- may have more
 abbrev pub ReadsInput : {X : Type 0} → Input → (X → List ℕ) → Option (List ℕ) → Result X RunFault → Type 0
 ReadsInput input view told (Ok x) = AreAsTold told (view x) × IsWithin (view x)
 ReadsInput input view told (Err (Read failed)) = failed ≡ input
-ReadsInput input view told (Err (TooLong long)) = (long ≡ input) × MayBeLonger INPUT_LIMIT told
+ReadsInput input view told (Err (TooLong long)) = (long ≡ input) × MayBeLonger input_limit told
 ReadsInput input view told (Err Memory) = Unit {0}
 ReadsInput input view told (Err fault) = ⊥
 

@@ -30,7 +30,8 @@ Bounded Plain Fits Passes (Ok answer) = Plain (Ok answer) × Fits
 Bounded Plain Fits Passes (Err fault) = Plain (Err fault) ⊎ Passes fault
 
 -- the result of reading a list of requirements, with these nodes afterwards, of which there may be so many
-abbrev pub LinesWithin : Variables → Input → ℕ → List NodeRecord → List ℕ → Result (List Line) RunFault → Type 0
+abbrev pub LinesWithin : Variables → Input → ℕ → List NodeRecord → List ℕ → Result (List Line) RunFault
+    → Type 0
 LinesWithin vars input most nodes bytes =
     Bounded (AnswersLines (StandsFor vars nodes) vars input bytes) (length nodes ≤ most)
     (PassesAt vars input most nodes bytes)

@@ -15,7 +15,8 @@ use Rattle.reqs_io_faults.specs.declared.fault.RunFault.TheVariants.{Shape}
 use Rattle.reqs_io_faults.specs.declared.fault.RunFault.TheVariants.{Member, Version, Candidate, TooManyCases}
 use Rattle.reqs_io_faults.specs.declared.fault.RunFault.TheVariants.{Refused, TooMany}
 use Rattle.reqs_io_faults.specs.declared.bounds.Excess.{Excess}
-use Rattle.reqs_io_faults.specs.declared.bounds.Excess.TheVariants.{NodesAt, Nodes, ClausesAt, ClausesFor, Cases}
+use Rattle.reqs_io_faults.specs.declared.bounds.Excess.TheVariants.{NodesAt, Nodes, ClausesAt}
+use Rattle.reqs_io_faults.specs.declared.bounds.Excess.TheVariants.{ClausesFor, Cases}
 use Rattle.reqs_io_faults.specs.FaultText.{shape_text, refused_text, excess_words, requirement_front}
 use Rattle.reqs_json.specs.declared.faults.Place.{Place}
 use Rattle.reqs_json.specs.Lines.{number_of, value_or_null, line_of}

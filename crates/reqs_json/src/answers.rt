@@ -19,7 +19,8 @@ use reqtable_candidates::{Candidate, Candidates};
 use serde_json::{Value, json};
 use std::alloc::{AllocError, Global};
 
-/// The rows of an answer in a format: as lines, by `Answer::text_among`, or as an object with an array of them.
+/// The rows of an answer in a format: as lines, by `Answer::text_among`, or as an object with an array of
+/// them.
 ///
 /// `candidates` is the list from which the answer was selected. Linear in the text; an object needs memory
 /// for its values in addition to its text.

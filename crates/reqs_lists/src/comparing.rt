@@ -74,6 +74,7 @@ pub fn same<L: Read, R: Read, W: Write>(
 {
     let mut interner = Interner::new(alloc);
     let none = Bounds::none();
+    // (says that there are no more nodes than a number can count)
     let _ = interner.node_count();
     match same_within(
         alloc,

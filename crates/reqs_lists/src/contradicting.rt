@@ -61,6 +61,7 @@ pub fn conflicts<R: Read, W: Write>(
 {
     let mut interner = Interner::new(alloc);
     let none = Bounds::none();
+    // (says that there are no more nodes than a number can count)
     let _ = interner.node_count();
     match conflicts_within(
         alloc,

@@ -57,6 +57,7 @@ pub fn normal<R: Read, W: Write>(
 {
     let mut interner = Interner::new(alloc);
     let none = Bounds::none();
+    // (says that there are no more nodes than a number can count)
     let _ = interner.node_count();
     match normal_within(
         alloc,

@@ -1,5 +1,5 @@
 -- Texts of pieces.
-use Rattle.std.proofs.Common.{◌≡◌, ◌∙◌, ◌+◌, ◌<◌, ◌≤◌, ℕ, suc, List, [], ◌∷◌, ◌++◌, length, get_or, take}
+use Rattle.std.proofs.Common.{◌≡◌, ◌∙◌, ◌+◌, ◌<◌, ◌≤◌, ℕ, zero, suc, List, [], ◌∷◌, ◌++◌, length, get_or, take}
 use Rattle.std.proofs.Common.{drop, map, All, refl, sym, ap, arith}
 use Rattle.std.specs.List.{flat_map}
 use Rattle.std.proofs.lemmas.List.Concat.{flat_map-append}
@@ -40,3 +40,7 @@ piece_is bytes texts i text below is = ap bytes is ∙ sym (get_or-map bytes tex
 pub seen_within : {X : Type 0} (bytes : X → List ℕ) (texts : List X) (order : List ℕ) → All (λ piece. piece < length texts) order
     → All (λ piece. piece < length (map bytes texts)) order
 seen_within bytes texts order within = λ k d below. let here = within k d below in omega (arith, length-map texts bytes)
+
+pub all_of_one : {X : Type 0} (P : X → Type 0) (x : X) → P x → All P (x ∷ [])
+all_of_one P x holds zero d below = holds
+all_of_one P x holds (suc k) d below = absurd (omega (arith, below))

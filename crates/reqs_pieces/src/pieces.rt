@@ -1,6 +1,6 @@
 //! Texts made of pieces, each of which is kept once.
 
-ghost use Rattle.std.specs.Prelude.{◌≡◌, ◌<◌, ◌++◌, ◌∷◌, [], length, get_or, IfOk, OnOk, OnErr};
+ghost use Rattle.std.specs.Prelude.{◌≡◌, ◌<◌, ◌+◌, ◌++◌, ◌∷◌, [], length, get_or, IfOk, OnOk, OnErr};
 ghost use Rattle.std.specs.Prelude.{string_bytes};
 ghost use Rattle.reqs_io.specs.Front.{WritesWhole, AppendsFront};
 
@@ -11,15 +11,18 @@ use std::io::Write;
 use std::marker::Model;
 
 /// A text made of pieces. A piece is kept once, however often it occurs in the text: each occurrence needs
-/// four bytes.
+/// four bytes, or eight from the first on whose number 32 bits can't hold.
 #[derive(Drop)]
 pub struct Pieces {
     texts: Vec<String>,
+    /// The numbers of the first occurrences, up to the first that 32 bits can't hold.
     order: Vec<u32>,
+    /// The numbers of all occurrences after these.
+    later: Vec<usize>,
 }
 
 impl Model for Pieces {
-    ghost use Rattle.std.specs.Prelude.{◌<◌, map, length, All};
+    ghost use Rattle.std.specs.Prelude.{◌<◌, ◌++◌, map, length, All};
     ghost use Rattle.std.specs.Prelude.{string_bytes};
     ghost use Rattle.reqs_pieces.specs.Pieces.{PiecesRecord, text_of};
 
@@ -27,10 +30,10 @@ impl Model for Pieces {
 
     ghost view = { λ p. record {
       texts = map string_bytes p.texts.items;
-      whole = text_of (map string_bytes p.texts.items) p.order.items;
+      whole = text_of (map string_bytes p.texts.items) (p.order.items ++ p.later.items);
     } };
 
-    ghost invariant = { λ p. All (λ piece. piece < length p.texts.items) p.order.items };
+    ghost invariant = { λ p. All (λ piece. piece < length p.texts.items) (p.order.items ++ p.later.items) };
 }
 
 impl Pieces {
@@ -43,6 +46,7 @@ impl Pieces {
         Pieces {
             texts: Vec::new(alloc),
             order: order_for(alloc, room),
+            later: Vec::new(alloc),
         }
     }
 
@@ -50,16 +54,14 @@ impl Pieces {
     ///
     /// # Errors
     ///
-    /// `AllocError` when memory runs out, or for more than 2^32 pieces.
-    pub fn add(&mut self, text: String) -> Result<u32, AllocError>
+    /// `AllocError` when memory runs out.
+    pub fn add(&mut self, text: String) -> Result<usize, AllocError>
         ensures named { IfOk result (λ piece. piece ≡ length self.old.texts) }
         ensures kept { OnOk result (self.new.texts ≡ self.old.texts ++ string_bytes text ∷ []) }
         ensures whole { OnOk result (self.new.whole ≡ self.old.whole) }
         ensures err { OnErr result (self.new ≡ self.old) }
     {
-        let Ok(piece) = u32::try_from(self.texts.len()) else {
-            return Err(AllocError);
-        };
+        let piece = self.texts.len();
         self.texts.push(text)?;
         Ok(piece)
     }
@@ -69,14 +71,20 @@ impl Pieces {
     /// # Errors
     ///
     /// `AllocError` when memory runs out.
-    pub fn append(&mut self, piece: u32) -> Result<(), AllocError>
+    pub fn append(&mut self, piece: usize) -> Result<(), AllocError>
         requires { piece < length self.old.texts }
         ensures kept { self.new.texts ≡ self.old.texts }
         ensures whole { OnOk result
             (self.new.whole ≡ self.old.whole ++ get_or self.old.texts piece []) }
         ensures err { OnErr result (self.new ≡ self.old) }
     {
-        self.order.push(piece)?;
+        if self.later.is_empty()
+            && let Ok(short) = u32::try_from(piece)
+        {
+            self.order.push(short)?;
+            return Ok(());
+        }
+        self.later.push(piece)?;
         Ok(())
     }
 
@@ -99,12 +107,26 @@ impl Pieces {
             (AppendsFront (W.contents writer.old) (W.contents writer.new) self.now.whole) }
     {
         let texts = &self.texts;
+        let order = &self.order;
+        let later = &self.later;
         buffer.clear();
-        for piece in &self.order {
-            let text = &texts[*piece as usize];
+        for at in 0..order.len() + later.len() {
+            let text = &texts[piece_at(order, later, at)];
             add_text(writer, buffer, text.as_bytes())?;
         }
         write_whole(writer, buffer)
+    }
+}
+
+/// The number of the piece at an occurrence.
+fn piece_at(order: &[u32], later: &[usize], at: usize) -> usize
+    requires { at < length order.now + length later.now }
+    ensures { result ≡ get_or (order.now ++ later.now) at 0 }
+{
+    if at < order.len() {
+        order[at] as usize
+    } else {
+        later[at - order.len()]
     }
 }
 

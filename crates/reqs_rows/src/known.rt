@@ -8,11 +8,11 @@ use std::alloc::{AllocError, Global};
 /// The cached pieces of a package's rows, by the indices of its cases.
 #[derive(Drop)]
 pub(crate) struct Known {
-    pub(crate) pieces: Vec<Option<u32>>,
+    pub(crate) pieces: Vec<Option<usize>>,
 }
 
 /// The cached piece of the row in the case at an index.
-pub(crate) fn piece_at(pieces: &[Option<u32>], place: usize) -> Option<u32>
+pub(crate) fn piece_at(pieces: &[Option<usize>], place: usize) -> Option<usize>
     ensures { result ≡ get_or pieces.now place None }
 {
     if place < pieces.len() {
@@ -24,9 +24,9 @@ pub(crate) fn piece_at(pieces: &[Option<u32>], place: usize) -> Option<u32>
 
 /// Caches the piece of the row in the case at an index. Needs memory for the cases up to that one.
 pub(crate) fn keep(
-    pieces: &mut Vec<Option<u32>>,
+    pieces: &mut Vec<Option<usize>>,
     place: usize,
-    piece: u32,
+    piece: usize,
 ) -> Result<(), AllocError>
     ensures { OnOk result ((at found : ℕ) → get_or pieces.new.items at None ≡ Some found →
         ((at ≡ place) × (piece ≡ found)) ⊎ (get_or pieces.old.items at None ≡ Some found)) }
@@ -37,7 +37,7 @@ pub(crate) fn keep(
 }
 
 /// Extends the list to contain an index; nothing is cached at the new indices.
-fn pad(pieces: &mut Vec<Option<u32>>, place: usize) -> Result<(), AllocError>
+fn pad(pieces: &mut Vec<Option<usize>>, place: usize) -> Result<(), AllocError>
     ensures within { OnOk result (place < vec_len pieces.new) }
     ensures same { OnOk result
         ((at : ℕ) → get_or pieces.new.items at None ≡ get_or pieces.old.items at None) }

@@ -22,6 +22,7 @@ use pep440_version::Version;
 use reqs_pieces::Pieces;
 use reqtable_answer::{Admission, Answer, Row};
 use reqtable_candidates::Candidates;
+use reqtable_table::lent::row_among;
 use reqtable_table::{Runs, Table};
 use std::alloc::{AllocError, Global};
 
@@ -88,7 +89,7 @@ fn put_row_in<F: Fn(&Version, bool) -> bool>(
     asked: &Asked<'_>,
     runs: &mut Runs<'_, '_>,
     admission: &Admission<F>,
-    own: &mut Vec<Option<u32>>,
+    own: &mut Vec<Option<usize>>,
     pieces: &mut Pieces,
 ) -> Result<(), AllocError>
     requires within { index < length table.old }
@@ -120,8 +121,9 @@ fn put_row_in<F: Fn(&Version, bool) -> bool>(
     if let Some(piece) = piece_at(own, place) {
         return pieces.append(piece);
     }
-    let row = table.row_among(
+    let row = row_among(
         alloc,
+        table,
         index,
         asked.interner,
         asked.environment,
@@ -142,7 +144,7 @@ fn put_new(
     row: Row,
     place: usize,
     candidates: &Candidates,
-    own: &mut Vec<Option<u32>>,
+    own: &mut Vec<Option<usize>>,
     pieces: &mut Pieces,
 ) -> Result<(), AllocError>
     requires { IsTakenBelow (length candidates.now) row.outcome }

@@ -33,6 +33,7 @@ use pep508_tree::Interner;
 use reqs_pieces::Pieces;
 use reqtable_answer::Admission;
 use reqtable_candidates::Candidates;
+use reqtable_table::lent::places;
 use reqtable_table::{Runs, Table};
 use std::alloc::{AllocError, Global};
 use std::marker::Model;
@@ -65,10 +66,10 @@ impl RowTexts {
     /// Appends the text of the table's answer in an environment with extras to a text of pieces: what
     /// `Answer::text` returns for the answer of `answer_among`.
     ///
-    /// Finds the case of each package (`Table::places`). A row and its text are made in the first environment
-    /// with its case; from then on it needs a few steps, and the memory of `Pieces` for one occurrence. All
-    /// environments have to use the pieces, the candidates and the admission with which these texts were
-    /// cached.
+    /// Finds the case of each package (`reqtable_table::lent::places`). A row and its text are made in the
+    /// first environment with its case; from then on it needs a few steps, and the memory of `Pieces` for one
+    /// occurrence. All environments have to use the pieces, the candidates and the admission with which these
+    /// texts were cached.
     ///
     /// # Errors
     ///
@@ -105,7 +106,7 @@ impl RowTexts {
         ensures tests { all_tests table.new ≤ all_tests table.old + most_tests_of interner.now.nodes
             (valuation_of environment.now extras.now) candidates.now table.old }
     {
-        let places = table.places(alloc, interner, environment, extras)?;
+        let places = places(alloc, table, interner, environment, extras)?;
         let asked = Asked {
             interner,
             environment,

@@ -1,7 +1,7 @@
 //! A table that is queried more than once, proved from the public contracts and laws.
 
 ghost use Rattle.std.specs.Prelude.{◌≡◌, [], List, IfOk, map};
-ghost use Rattle.std.specs.List.{AllByRecursion};
+ghost use Rattle.std.specs.List.{AllByRecursion, AllZip};
 ghost use Rattle.pep508_evaluation.specs.Valuations.{valuation_of};
 ghost use Rattle.reqtable_answer.specs.Admission.{Admits, AnswersBy};
 ghost use Rattle.reqtable_answer.specs.Answer.{IsAnswer};
@@ -45,6 +45,33 @@ fn both_answers<F: Fn(&Version, bool) -> bool>(
     let first = table.answer(alloc, interner, one, &[], candidates, admission)?;
     let second = table.answer(alloc, interner, other, &[], candidates, admission)?;
     Ok((first, second))
+}
+
+/// The answers for environments, one after the other, among candidates that were found once.
+#[tactic(auto, using(reqtable_table::proofs::Told::told_at_first))]
+fn answers_among<F: Fn(&Version, bool) -> bool>(
+    alloc: Global,
+    table: &mut Table,
+    interner: &Interner,
+    environments: &[MarkerEnvironment],
+    candidates: &Candidates,
+    admission: &Admission<F>,
+) -> Result<Vec<Answer>, AllocError>
+    requires callable { F.IsAlwaysCallable admission.now }
+    requires cases { AllByRecursion (HasItsCases interner.now.nodes) table.old }
+    ensures { IfOk result (λ answers. (said : List LineRecord) (admits : Admits) →
+        KeepsAll interner.now.nodes table.old said → AnswersBy (F.post admission.now) admits →
+        AllZip (λ environment answer. IsAnswer admits (asks_of (valuation_of environment []) said)
+        candidates.now (map row_seen answer.rows.items)) environments.now answers.items) }
+{
+    let ordered = candidates.in_order(alloc)?;
+    let mut runs = table.runs(alloc, &ordered)?;
+    let mut answers = Vec::new(alloc);
+    for environment in environments {
+        let answer = table.answer_among(alloc, interner, environment, &[], &mut runs, admission)?;
+        answers.push(answer)?;
+    }
+    Ok(answers)
 }
 
 /// The answer after an earlier one, with another list read in between.

@@ -23,4 +23,6 @@ mod readers;
 #[cfg(test)]
 mod tables;
 #[cfg(test)]
+mod twice;
+#[cfg(test)]
 mod writers;

@@ -11,6 +11,7 @@ use pep508_url::Vars;
 use reqtable_answer::Admission;
 use reqtable_candidates::{Candidates, Ordered, Placed};
 use reqtable_requirements::Requirements;
+use reqtable_table::lent::package_count;
 use reqtable_table::{Case, Table, TableError};
 use std::alloc::{AllocError, Global};
 use std::fmt::Write;
@@ -92,6 +93,51 @@ fn only_candidates_that_are_not_plain_are_asked(rt: HostRuntime) -> Result<(), F
     Ok(())
 }
 
+/// How many specifiers were tested after one answer, and after a second among the same candidates.
+#[tactic(auto, using(reqtable_table::proofs::Told::told_at_first))]
+fn tests_of_two(
+    alloc: Global,
+    table: &mut Table,
+    interner: &Interner,
+    candidates: &str,
+) -> Result<String, AllocError>
+    requires { AllByRecursion (HasItsCases interner.now.nodes) table.old }
+{
+    let candidates = Candidates::parse(alloc, candidates.as_bytes()).or(Err(AllocError))?;
+    let environment = environment(alloc)?;
+    let admission = Admission::new(|_: &Version, _: bool| true);
+    let ordered = candidates.in_order(alloc)?;
+    let mut runs = table.runs(alloc, &ordered)?;
+    let _ = table.answer_among(alloc, interner, &environment, &[], &mut runs, &admission)?;
+    let once = table.tests();
+    let _ = table.answer_among(alloc, interner, &environment, &[], &mut runs, &admission)?;
+    let twice = table.tests();
+    format!(in alloc; "{once} {twice}")
+}
+
+fn tested(alloc: Global, lines: &str, candidates: &str) -> Result<String, AllocError> {
+    let vars = Vars::new(alloc, &[], "/w")?;
+    let mut interner = Interner::new(alloc);
+    let Ok(read) = Requirements::parse(alloc, lines.as_bytes(), &mut interner, &vars) else {
+        return String::from_str(alloc, "refused");
+    };
+    match Table::build(alloc, read, &mut interner, 8) {
+        Ok(mut table) => tests_of_two(alloc, &mut table, &interner, candidates),
+        Err(_) => String::from_str(alloc, "refused"),
+    }
+}
+
+#[test]
+fn what_is_taken_in_a_case_is_kept(rt: HostRuntime) -> Result<(), Fail> {
+    for (lines, candidates, want) in [
+        ("foo===1.0", "foo 1.0.0\nfoo 1.0", "2 2"),
+        ("foo==1.0", "foo 1.0\nfoo 1.0+x", "1 1"),
+    ] {
+        assert_eq!(rt; tested(rt.alloc(), lines, candidates)?.as_str(), want);
+    }
+    Ok(())
+}
+
 /// The cases of a package by the numbers of their lines, each with whether one of its specifiers names a
 /// pre-release; or why there is no table.
 fn cases_shown(alloc: Global, lines: &str, name: &str, limit: u64) -> Result<String, AllocError> {
@@ -144,7 +190,7 @@ fn built_within(alloc: Global, lines: &str, limit: u64, in_all: u64) -> Result<S
     };
     match Table::build_within(alloc, read, &mut interner, limit, in_all) {
         Ok(table) => {
-            let packages = table.len();
+            let packages = package_count(&table);
             format!(in alloc; "{packages} packages")
         }
         Err(TableError::TooManyCases { package }) => format!(in alloc; "too many: {package}"),
@@ -178,13 +224,14 @@ fn cases_are_bounded_together(rt: HostRuntime) -> Result<(), Fail> {
 }
 
 /// The cases of a package by the numbers of their lines, each with whether its range has version 1.5: `+` or
-/// `-`, or `?` for a case without a range.
+/// `-`, `0` for an empty range, or `?` for a case without a range.
 fn ranges_of(alloc: Global, table: &Table, name: &str) -> Result<String, AllocError> {
     let name = PackageName::from_str(alloc, name).or(Err(AllocError))?;
     let version = Version::from_str(alloc, "1.5").or(Err(AllocError))?;
     let mut text = String::new(alloc);
     for case in table.cases(&name).unwrap_or(&[]) {
         let sign = match table.range(alloc, &name, case)? {
+            Some(range) if range.is_empty() => "0",
             Some(range) => sign_of(range.contains(&version)),
             None => "?",
         };
@@ -218,6 +265,7 @@ fn a_case_has_the_range_of_its_lines(rt: HostRuntime) -> Result<(), Fail> {
         ),
         ("foo===1.5\nfoo<1 ; os_name == 'a'", "[1, 2]?[1]?"),
         ("foo @ ./c ; os_name == 'a'\nfoo<2", "[1, 2]?[2]+"),
+        ("foo>=2\nfoo<1", "[1, 2]0"),
         ("bar<1", ""),
     ] {
         assert_eq!(rt; ranges_shown(rt.alloc(), lines, "foo")?.as_str(), want);

@@ -38,10 +38,8 @@ use std::alloc::{AllocError, Global};
 ///
 /// With n specifiers and m candidates of a package that are O((n + m) log n) comparisons of versions, or n
 /// times m where that is at most 1,024. In addition each tested candidate is matched against each specifier
-/// that no range decides: a `===`, a `<` or `>` with a post-release, one whose range would need a number past
-/// 64 bits; and if the candidate has a local part or is a post-release, also a specifier with a local part,
-/// and a `>` with a pre-release or developmental release. So m times n is reached only where most specifiers
-/// are of these kinds.
+/// whose range would need a number past 64 bits, and at most four `<` and `>` and two `===`, which imply the
+/// others that no range decides. So n times m is reached only where most specifiers need such a number.
 ///
 /// # Errors
 ///

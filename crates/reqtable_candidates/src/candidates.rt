@@ -256,8 +256,8 @@ fn split_at_white(text: &str) -> Option<(&str, &str)>
 /// # Errors
 ///
 /// `CandidatesError::Line` with the number and the first fault of the line's shape, its name and its version.
-/// `CandidatesError::Memory` when memory runs out; rejecting a line for its shape or name never fails for lack
-/// of memory.
+/// `CandidatesError::Memory` when memory runs out; rejecting a line for its shape or name never fails for
+/// lack of memory.
 #[tactic(auto, unfolding(crate::specs::CandidateLine::candidate_of, pep508_name::specs::Name::name_of))]
 pub fn read_candidate(
     alloc: Global,

@@ -5,12 +5,11 @@ use Rattle.std.specs.Option.{option_map}
 use Rattle.std.specs.List.{AllZip, AllByRecursion}
 use Rattle.pep508_url.specs.Vars.{Variables}
 use Rattle.pep508_tree.specs.Meaning.{NodeRecord, Extends}
-use Rattle.pep508_tree.proofs.Conjoining.{extends_itself, tree_kept}
-use Rattle.reqtable_requirements.specs.Asks.{AreOfNodes}
+use Rattle.pep508_tree.proofs.Conjoining.{extends_itself}
 use Rattle.reqtable_requirements.specs.LineReading.{LineRecord}
 use Rattle.reqtable_requirements.specs.Requirements.{StandsFor}
 use Rattle.reqtable_requirements.specs.declared.requirements.Line.{Line}
-use Rattle.reqtable_compare.proofs.Kept.{lines_kept}
+use Rattle.reqtable_requirements.proofs.Lasting.{lines_kept}
 use Rattle.reqtable_table.specs.Cases.{Builds, HasItsCases}
 use Rattle.reqtable_table.specs.Kept.{KeptPackage}
 use Rattle.reqtable_table.proofs.Packages.{has_kept}
@@ -33,12 +32,6 @@ use Rattle.reqtable_compare.proofs.Outside.{outside}
 use Rattle.reqtable_compare.proofs.Whole.{compares, side_of}
 
 -- ---- what lasts while nodes are added
-
-pub nodes_kept : (old new : List NodeRecord) (lines : List Line) → Extends old new → AreOfNodes old lines →
-    AreOfNodes new lines
-nodes_kept old new [] keeps h = tt
-nodes_kept old new (line ∷ lines) keeps h =
-    (tree_kept old new keeps line.requirement.marker h.0, nodes_kept old new lines keeps h.1)
 
 pub all_have_kept : (old new : List NodeRecord) (table : List KeptPackage) → Extends old new →
     AllByRecursion (HasItsCases old) table → AllByRecursion (HasItsCases new) table

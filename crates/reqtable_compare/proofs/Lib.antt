@@ -11,7 +11,6 @@ pub mod Summaries
 pub mod Packages
 pub mod Trees
 pub mod Whole
-pub mod Kept
 pub mod Answering
 pub mod Apart
 pub mod Listed

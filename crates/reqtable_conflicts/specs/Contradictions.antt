@@ -52,8 +52,8 @@ FindsConflicts view limit said (Err (TooManyCases name)) = IsFirstTooMany limit 
 FindsConflicts view limit said (Err TooManyCasesInAll) = ⊥
 FindsConflicts view limit said (Err Memory) = Unit {0}
 
--- the conflicts that are found with a bound on the cases of all packages together: it is passed only where the
--- lines have more cases in all
+-- the conflicts that are found with a bound on the cases of all packages together: it is passed only where
+-- the lines have more cases in all
 abbrev pub FindsWithin : {X : Type 0} → (X → List ConflictRecord) → ℕ → ℕ → List LineRecord
     → Result X TableError → Type 0
 FindsWithin view limit in_all said (Ok found) = FindsConflicts view limit said (Ok found)

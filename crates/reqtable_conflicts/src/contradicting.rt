@@ -83,9 +83,9 @@ pub fn conflicts(
     Ok(found)
 }
 
-/// The lines of each package that contradict each other, as `conflicts` finds them, with no more than `in_all`
-/// cases built. Only the packages whose cases `conflicts` builds are counted, and their tables are those of
-/// `Table::build_within`.
+/// The lines of each package that contradict each other, as `conflicts` finds them, with no more than
+/// `in_all` cases built. Only the packages whose cases `conflicts` builds are counted, and their tables are
+/// those of `Table::build_within`.
 ///
 /// # Errors
 ///

@@ -9,7 +9,7 @@ use Rattle.std.proofs.lemmas.List.Folds.{list_all-append}
 use Rattle.std.specs.Borrow.{Bor}
 use Rattle.pep440_specifier.specs.Matching.{SpecifierRecord, takes}
 use Rattle.pep440_specifier_list.specs.Lists.{matches_all}
-use Rattle.reqtable_range.specs.declared.specifier_sets.Kind.TheVariants.{Simple, Plain, Single}
+use Rattle.reqtable_range.specs.declared.specifier_sets.Kind.TheVariants.{Simple, Local, Single}
 use Rattle.reqtable_range.specs.declared.specifier_sets.Sorted.{Sorted}
 use Rattle.reqtable_range.specs.Sorting.{IsOfKind, TakeAs, SortsInto}
 use Rattle.reqtable_range.specs.Together.{members_of, lent}
@@ -39,9 +39,9 @@ simple_take members a b c member h v =
     ∙ and_first (matches_all a v) (matches_all b v) (matches_all c v) more
     ∙ ap (λ x. x && (matches_all b v && matches_all c v)) (sym (list_all-append (takes v) a (member ∷ [])))
 
-plain_take : (members a b c : Members) (member : SpecifierRecord) → TakeAs members a b c
+local_take : (members a b c : Members) (member : SpecifierRecord) → TakeAs members a b c
     → TakeAs (members ++ member ∷ []) a (b ++ member ∷ []) c
-plain_take members a b c member h v =
+local_take members a b c member h v =
     let more = matches_all (member ∷ []) v in
     list_all-append (takes v) members (member ∷ []) ∙ ap (λ x. x && more) (h v)
     ∙ and_second (matches_all a v) (matches_all b v) (matches_all c v) more
@@ -63,54 +63,54 @@ Lent = List (Bor SpecifierRecord)
 lent_more : (members : Lent) (member : Bor SpecifierRecord) → lent (members ++ member ∷ []) ≡ lent members ++ member.now ∷ []
 lent_more members member = map-append (λ m. m.now) members (member ∷ [])
 
-pub none_sorted : (sorted : Sorted) → sorted.simple.items ≡ [] → sorted.plain.items ≡ [] → sorted.single.items ≡ []
+pub none_sorted : (sorted : Sorted) → sorted.simple.items ≡ [] → sorted.local.items ≡ [] → sorted.single.items ≡ []
     → SortsInto [] sorted
 none_sorted sorted a b c = record {
   simple = subst (λ xs. All (IsOfKind Simple) (lent xs)) (sym a) (All-nil (IsOfKind Simple));
-  plain = subst (λ xs. All (IsOfKind Plain) (lent xs)) (sym b) (All-nil (IsOfKind Plain));
+  local = subst (λ xs. All (IsOfKind Local) (lent xs)) (sym b) (All-nil (IsOfKind Local));
   single = subst (λ xs. All (IsOfKind Single) (lent xs)) (sym c) (All-nil (IsOfKind Single));
   take = λ v i. matches_all (lent (sym a i)) v && (matches_all (lent (sym b i)) v && matches_all (lent (sym c i)) v);
 }
 
 pub simple_sorted : (old new : Sorted) (member : Bor SpecifierRecord) → new.simple.items ≡ old.simple.items ++ member ∷ []
-    → new.plain.items ≡ old.plain.items → new.single.items ≡ old.single.items → IsOfKind Simple member.now
+    → new.local.items ≡ old.local.items → new.single.items ≡ old.single.items → IsOfKind Simple member.now
     → (members : Members) → SortsInto members old → SortsInto (members ++ member.now ∷ []) new
 simple_sorted old new member a b c kind members h =
     let grown : lent new.simple.items ≡ lent old.simple.items ++ member.now ∷ [] = ap lent a ∙ lent_more old.simple.items member in
     record {
       simple = subst (All (IsOfKind Simple)) (sym grown) (All-push (IsOfKind Simple) (lent old.simple.items) member.now h.simple kind);
-      plain = subst (λ xs. All (IsOfKind Plain) (lent xs)) (sym b) h.plain;
+      local = subst (λ xs. All (IsOfKind Local) (lent xs)) (sym b) h.local;
       single = subst (λ xs. All (IsOfKind Single) (lent xs)) (sym c) h.single;
       take = λ v.
-          simple_take members (lent old.simple.items) (lent old.plain.items) (lent old.single.items) member.now h.take v
+          simple_take members (lent old.simple.items) (lent old.local.items) (lent old.single.items) member.now h.take v
           ∙ (λ i. matches_all (sym grown i) v && (matches_all (lent (sym b i)) v && matches_all (lent (sym c i)) v));
     }
 
-pub plain_sorted : (old new : Sorted) (member : Bor SpecifierRecord) → new.simple.items ≡ old.simple.items
-    → new.plain.items ≡ old.plain.items ++ member ∷ [] → new.single.items ≡ old.single.items → IsOfKind Plain member.now
+pub local_sorted : (old new : Sorted) (member : Bor SpecifierRecord) → new.simple.items ≡ old.simple.items
+    → new.local.items ≡ old.local.items ++ member ∷ [] → new.single.items ≡ old.single.items → IsOfKind Local member.now
     → (members : Members) → SortsInto members old → SortsInto (members ++ member.now ∷ []) new
-plain_sorted old new member a b c kind members h =
-    let grown : lent new.plain.items ≡ lent old.plain.items ++ member.now ∷ [] = ap lent b ∙ lent_more old.plain.items member in
+local_sorted old new member a b c kind members h =
+    let grown : lent new.local.items ≡ lent old.local.items ++ member.now ∷ [] = ap lent b ∙ lent_more old.local.items member in
     record {
       simple = subst (λ xs. All (IsOfKind Simple) (lent xs)) (sym a) h.simple;
-      plain = subst (All (IsOfKind Plain)) (sym grown) (All-push (IsOfKind Plain) (lent old.plain.items) member.now h.plain kind);
+      local = subst (All (IsOfKind Local)) (sym grown) (All-push (IsOfKind Local) (lent old.local.items) member.now h.local kind);
       single = subst (λ xs. All (IsOfKind Single) (lent xs)) (sym c) h.single;
       take = λ v.
-          plain_take members (lent old.simple.items) (lent old.plain.items) (lent old.single.items) member.now h.take v
+          local_take members (lent old.simple.items) (lent old.local.items) (lent old.single.items) member.now h.take v
           ∙ (λ i. matches_all (lent (sym a i)) v && (matches_all (sym grown i) v && matches_all (lent (sym c i)) v));
     }
 
 pub single_sorted : (old new : Sorted) (member : Bor SpecifierRecord) → new.simple.items ≡ old.simple.items
-    → new.plain.items ≡ old.plain.items → new.single.items ≡ old.single.items ++ member ∷ [] → IsOfKind Single member.now
+    → new.local.items ≡ old.local.items → new.single.items ≡ old.single.items ++ member ∷ [] → IsOfKind Single member.now
     → (members : Members) → SortsInto members old → SortsInto (members ++ member.now ∷ []) new
 single_sorted old new member a b c kind members h =
     let grown : lent new.single.items ≡ lent old.single.items ++ member.now ∷ [] = ap lent c ∙ lent_more old.single.items member in
     record {
       simple = subst (λ xs. All (IsOfKind Simple) (lent xs)) (sym a) h.simple;
-      plain = subst (λ xs. All (IsOfKind Plain) (lent xs)) (sym b) h.plain;
+      local = subst (λ xs. All (IsOfKind Local) (lent xs)) (sym b) h.local;
       single = subst (All (IsOfKind Single)) (sym grown) (All-push (IsOfKind Single) (lent old.single.items) member.now h.single kind);
       take = λ v.
-          single_take members (lent old.simple.items) (lent old.plain.items) (lent old.single.items) member.now h.take v
+          single_take members (lent old.simple.items) (lent old.local.items) (lent old.single.items) member.now h.take v
           ∙ (λ i. matches_all (lent (sym a i)) v && (matches_all (lent (sym b i)) v && matches_all (sym grown i) v));
     }
 

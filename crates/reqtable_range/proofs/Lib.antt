@@ -1,3 +1,6 @@
 pub mod Halves
 pub mod ByKind
+pub mod Local
 pub mod Telling
+pub mod Implying
+pub mod Fewer

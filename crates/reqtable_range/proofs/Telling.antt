@@ -1,5 +1,5 @@
--- What one range, and the members beside it, tell.
-use Rattle.std.proofs.Common.{◌≡◌, ◌∙◌, Bool, true, false, ◌&&◌, List, [], map, All, None, Ok, ap, sym}
+-- What the ranges, and the single members beside them, tell.
+use Rattle.std.proofs.Common.{◌≡◌, ◌∙◌, Bool, true, false, ◌&&◌, List, [], map, All, Ok, ap, sym}
 use Rattle.std.proofs.lemmas.List.Elements.{All-weaker}
 use Rattle.version_ranges.specs.Point.{Point, At}
 use Rattle.version_ranges.specs.Held.{holds_at}
@@ -7,14 +7,15 @@ use Rattle.pep440_version.specs.Record.{VersionRecord, without_local}
 use Rattle.pep440_version.specs.Order.{version_cmp}
 use Rattle.pep440_specifier.specs.Matching.{SpecifierRecord}
 use Rattle.pep440_specifier_list.specs.Lists.{matches_all}
-use Rattle.pep440_range.specs.Agreement.{IsSaid, IsSimple, IsWithoutPosts}
+use Rattle.pep440_range.specs.Agreement.{IsSaid, IsSimple}
 use Rattle.pep440_range.specs.Ranges.{range_of, GivesAll}
 use Rattle.reqtable_range.specs.declared.one.OneRange.{OneRange}
-use Rattle.reqtable_range.specs.declared.specifier_sets.Kind.TheVariants.{Simple, Plain}
+use Rattle.reqtable_range.specs.declared.specifier_sets.Kind.TheVariants.{Simple, Local}
 use Rattle.reqtable_range.specs.One.{FindsOne}
 use Rattle.reqtable_range.specs.Sorting.{IsOfKind}
-use Rattle.reqtable_range.specs.Together.{members_of, all_take, lent, IsPlain, HasRange, HaveRanges}
+use Rattle.reqtable_range.specs.Together.{members_of, all_take, lent, HasRange, HaveRanges}
 use Rattle.reqtable_range.proofs.Halves.{members_take, all_have}
+use Rattle.reqtable_range.proofs.Local.{local_range, local_tells}
 
 abbrev Set : Type 0
 Set = List (Point VersionRecord)
@@ -27,8 +28,8 @@ Members = List SpecifierRecord
 pub simple_have : (members : Members) → All (IsOfKind Simple) members → HaveRanges members
 simple_have members h = all_have members (All-weaker (IsOfKind Simple) HasRange (λ m k. k.0) members h)
 
-pub plain_have : (members : Members) → All (IsOfKind Plain) members → HaveRanges members
-plain_have members h = all_have members (All-weaker (IsOfKind Plain) HasRange (λ m k. k.0) members h)
+pub local_have : (members : Members) → All (IsOfKind Local) members → HaveRanges members
+local_have members h = all_have members (All-weaker (IsOfKind Local) HasRange local_range members h)
 
 -- ---- what the ranges tell
 
@@ -38,27 +39,21 @@ SimpleLaw =
     → All IsSimple members → IsSaid version → GivesAll (Ok set) (map range_of members)
     → holds_at version_cmp set (At (without_local version)) ≡ matches_all members version
 
-abbrev pub PlainLaw : Type 0
-PlainLaw =
-    (members : Members) (version : VersionRecord) (set : Set)
-    → All IsWithoutPosts members → IsSaid version → version.local ≡ [] → version.post ≡ None → GivesAll (Ok set) (map range_of members)
-    → holds_at version_cmp set (At version) ≡ matches_all members version
+-- the three questions: both ranges, and the single members
+abbrev pub Told : List Members → OneRange → VersionRecord → Type 0
+Told lists one version =
+    all_take lists version
+    ≡ (holds_at version_cmp one.simple (At (without_local version))
+    && (holds_at version_cmp one.local (At version) && matches_all (lent one.single.items) version))
 
-pub plain_tells : PlainLaw → (members : Members) (one : OneRange) (version : VersionRecord) → FindsOne members one → IsPlain version
-    → holds_at version_cmp one.plain (At version) ≡ matches_all (lent one.beside.items) version
-plain_tells law members one version found plain =
-    law (lent one.beside.items) version one.plain
-    (All-weaker (IsOfKind Plain) IsWithoutPosts (λ m k. k.1) (lent one.beside.items) found.are_plain)
-    plain.said plain.no_local plain.no_post found.plain
-
-pub all_told : SimpleLaw → (lists : List Members) (one : OneRange) (version : VersionRecord) → FindsOne (members_of lists) one → IsSaid version
-    → all_take lists version
-    ≡ (holds_at version_cmp one.simple (At (without_local version)) && (matches_all (lent one.beside.items) version && matches_all (lent one.single.items) version))
+pub all_told : SimpleLaw → (lists : List Members) (one : OneRange) (version : VersionRecord)
+    → FindsOne (members_of lists) one → IsSaid version → Told lists one version
 all_told law lists one version found said =
+    let simple = law found.simple_members version one.simple
+    (All-weaker (IsOfKind Simple) IsSimple (λ m k. k.1) found.simple_members found.are_simple) said found.simple in
+    let local = local_tells found.local_members version one.local found.are_local found.local in
     sym (members_take lists version) ∙ found.take version
-    ∙ ap (λ b. b && (matches_all (lent one.beside.items) version && matches_all (lent one.single.items) version))
-    (sym (law found.simple_members version one.simple
-    (All-weaker (IsOfKind Simple) IsSimple (λ m k. k.1) found.simple_members found.are_simple) said found.simple))
+    ∙ (λ i. sym simple i && (sym local i && matches_all (lent one.single.items) version))
 
 -- a version without a local part is what is left of it without one
 public_is : (version : VersionRecord) → version.local ≡ [] → version ≡ without_local version
@@ -80,29 +75,27 @@ third_answers : (a b c all : Bool) → all ≡ (a && (b && c)) → a ≡ true �
 third_answers a b c all h e f = sym (h ∙ (λ i. e i && (f i && c)))
 
 -- what a version is told where the ranges are asked first, and then the single members
-module _ (law : (lists : List Members) (one : OneRange) (version : VersionRecord) → FindsOne (members_of lists) one → IsSaid version
-    → all_take lists version
-    ≡ (holds_at version_cmp one.simple (At (without_local version)) && (matches_all (lent one.beside.items) version && matches_all (lent one.single.items) version)))
+module _ (law : (lists : List Members) (one : OneRange) (version : VersionRecord) → FindsOne (members_of lists) one
+    → IsSaid version → Told lists one version)
     (one : OneRange) (version : VersionRecord) (said : IsSaid version)
     (simple : Bool) (simple_is : simple ≡ holds_at version_cmp one.simple (At (without_local version))) where
   pub first_told : simple ≡ false → (lists : List Members) → FindsOne (members_of lists) one → false ≡ all_take lists version
   first_told e lists found =
-      first_refuses (holds_at version_cmp one.simple (At (without_local version))) (matches_all (lent one.beside.items) version)
-      (matches_all (lent one.single.items) version) (all_take lists version) (law lists one version found said) (sym simple_is ∙ e)
+      first_refuses (holds_at version_cmp one.simple (At (without_local version)))
+      (holds_at version_cmp one.local (At version)) (matches_all (lent one.single.items) version)
+      (all_take lists version) (law lists one version found said) (sym simple_is ∙ e)
 
-  pub second_told : simple ≡ true → (beside : Bool)
-      → ((members : Members) → FindsOne members one → beside ≡ matches_all (lent one.beside.items) version)
-      → beside ≡ false → (lists : List Members) → FindsOne (members_of lists) one → false ≡ all_take lists version
-  second_told e beside is f lists found =
-      second_refuses (holds_at version_cmp one.simple (At (without_local version))) (matches_all (lent one.beside.items) version)
-      (matches_all (lent one.single.items) version) (all_take lists version) (law lists one version found said)
-      (sym simple_is ∙ e) (sym (is (members_of lists) found) ∙ f)
+  pub second_told : simple ≡ true → (local : Bool) → local ≡ holds_at version_cmp one.local (At version)
+      → local ≡ false → (lists : List Members) → FindsOne (members_of lists) one → false ≡ all_take lists version
+  second_told e local is f lists found =
+      second_refuses (holds_at version_cmp one.simple (At (without_local version)))
+      (holds_at version_cmp one.local (At version)) (matches_all (lent one.single.items) version)
+      (all_take lists version) (law lists one version found said) (sym simple_is ∙ e) (sym is ∙ f)
 
-  pub third_told : simple ≡ true → (beside : Bool)
-      → ((members : Members) → FindsOne members one → beside ≡ matches_all (lent one.beside.items) version)
-      → beside ≡ true → (taken : Bool) → taken ≡ matches_all (lent one.single.items) version
+  pub third_told : simple ≡ true → (local : Bool) → local ≡ holds_at version_cmp one.local (At version)
+      → local ≡ true → (taken : Bool) → taken ≡ matches_all (lent one.single.items) version
       → (lists : List Members) → FindsOne (members_of lists) one → taken ≡ all_take lists version
-  third_told e beside is f taken single lists found =
-      single ∙ third_answers (holds_at version_cmp one.simple (At (without_local version))) (matches_all (lent one.beside.items) version)
-      (matches_all (lent one.single.items) version) (all_take lists version) (law lists one version found said)
-      (sym simple_is ∙ e) (sym (is (members_of lists) found) ∙ f)
+  third_told e local is f taken single lists found =
+      single ∙ third_answers (holds_at version_cmp one.simple (At (without_local version)))
+      (holds_at version_cmp one.local (At version)) (matches_all (lent one.single.items) version)
+      (all_take lists version) (law lists one version found said) (sym simple_is ∙ e) (sym is ∙ f)

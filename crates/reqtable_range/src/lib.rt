@@ -1,12 +1,14 @@
-//! What many lists of specifiers accept together: decided by one range, and by the few specifiers that no
+//! What many lists of specifiers accept together: decided by two ranges, and by the few specifiers that no
 //! range decides.
 #![tactic(auto)]
 
+mod ends;
+mod exact;
 pub mod laws;
 mod one;
-mod plain;
 mod shared;
 mod simple;
+mod single;
 mod specifier_sets;
 
 pub use one::{OneRange, one_range};

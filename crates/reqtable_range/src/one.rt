@@ -1,4 +1,4 @@
-//! The single range of many lists, and which versions it decides.
+//! What many lists accept together, as two ranges and the specifiers that are tested one by one.
 
 ghost use Rattle.std.specs.Prelude.{◌≡◌, ◌↔◌, IsTrue, List, map, is_some, IfOk, IfSome};
 ghost use Rattle.version_ranges.specs.Point.{At};
@@ -12,28 +12,25 @@ ghost use Rattle.reqtable_range.specs.Together.{members_of, all_take, lent};
 ghost use Rattle.reqtable_range.specs.One.{FindsOne};
 
 use crate::laws::simple_range_tells_what_all_take;
-use crate::plain::{is_plain, is_said};
 use crate::shared::shared_range;
+use crate::simple::is_said;
+use crate::single::without_implied;
 use crate::specifier_sets::sorted_members;
-use pep440_range::laws::ranges_agree_beside_posts;
 use pep440_specifier::VersionSpecifier;
 use pep440_specifier_list::VersionSpecifiers;
 use pep440_version::Version;
 use std::alloc::{AllocError, Global};
 use version_ranges::Ranges;
 
-/// The single range of many lists, and the specifiers that are tested in addition to it.
+/// The ranges of many lists, and the specifiers that are tested in addition to them.
 #[derive(Drop)]
 pub struct OneRange<'a> {
     /// The range of those specifiers whose range decides each version, tested without its local part.
     pub simple: Ranges<Version>,
-    /// The range of those specifiers whose range decides only plain versions: without a local part, and no
-    /// post-releases.
-    pub plain: Ranges<Version>,
-    /// The specifiers of `plain` themselves, which are tested for versions that aren't plain.
-    pub beside: Vec<&'a VersionSpecifier>,
-    /// The specifiers that no range decides: each `===`, each `<` or `>` with a post-release, and those
-    /// without a range.
+    /// The range of each `==` and `!=` with a local part, which decides each version, tested as it is.
+    pub local: Ranges<Version>,
+    /// The specifiers that no range decides: those without a range, and at most four `<` and `>` and two
+    /// `===`, which imply the others.
     pub single: Vec<&'a VersionSpecifier>,
 }
 
@@ -42,8 +39,8 @@ impl<'a> OneRange<'a> {
     /// be written.
     ///
     /// With n specifiers in both ranges that are O(log n) comparisons of versions; in addition each single
-    /// specifier is tested, and for a version that isn't plain each one of `beside`, up to the first that
-    /// rejects it. Needs memory for a copy of a version with a local part, and to test `===`.
+    /// specifier is tested, up to the first that rejects it. Needs memory for a copy of a version with a
+    /// local part, and to test `===`.
     ///
     /// # Errors
     ///
@@ -70,30 +67,18 @@ impl<'a> OneRange<'a> {
         if !simple {
             return Ok(false);
         }
-        let beside = self.takes_beside(alloc, version)?;
-        if !beside {
+        let local = self.local.contains(version);
+        if !local {
             return Ok(false);
         }
         each_takes(alloc, &self.single, version)
     }
-
-    /// Whether the specifiers of `beside` accept the version: by their range, if the version is plain.
-    fn takes_beside(&self, alloc: Global, version: &Version) -> Result<bool, AllocError>
-        ensures { IfOk result (λ taken. (members : List SpecifierRecord) → FindsOne members self.now →
-            taken ≡ matches_all (lent self.now.beside.items) version.now) }
-    {
-        ranges_agree_beside_posts();
-        if is_plain(version) {
-            return Ok(self.plain.contains(version));
-        }
-        each_takes(alloc, &self.beside, version)
-    }
 }
 
-/// The single range of the lists.
+/// The ranges of the lists, and the specifiers that no range decides.
 ///
-/// Needs O(n log n) comparisons of versions for n specifiers, and memory for the bounds and for references to
-/// the specifiers.
+/// Needs O(n log n) comparisons of versions for n specifiers, and memory for the bounds, for references to the
+/// specifiers and for prints of two versions.
 ///
 /// # Errors
 ///
@@ -106,12 +91,12 @@ pub fn one_range<'a>(
 {
     let sorted = sorted_members(alloc, lists)?;
     let simple = shared_range(alloc, &sorted.simple)?;
-    let plain = shared_range(alloc, &sorted.plain)?;
+    let local = shared_range(alloc, &sorted.local)?;
+    let single = without_implied(alloc, &sorted.single)?;
     Ok(OneRange {
         simple,
-        plain,
-        beside: sorted.plain,
-        single: sorted.single,
+        local,
+        single,
     })
 }
 

@@ -1,12 +1,11 @@
 //! The specifiers of many lists, by which versions their ranges decide.
 //!
-//! The range of the simple specifiers is asked of each candidate without its local part; that of the plain
-//! ones of plain candidates, and other candidates ask each of them. Specifiers of which no range tells
-//! (`===`, a post-release with `<` or `>`, a number at the end of 64 bits) are asked one by one. So 160,000
-//! specifiers with as many candidates take n log n comparisons, and a `===` among them one more for each
-//! candidate. What stays specifiers times candidates: these, where most are; and for candidates with a
-//! local part or a post-release the specifiers that have a local part, or a pre- or developmental release
-//! with `>`.
+//! The range of the simple specifiers is asked of each candidate without its local part, that of the local
+//! ones, `==` and `!=` with a local part, of each candidate as it is. Single ones are asked one by one:
+//! `===`, a `<` of a post-release, a `>` of anything but a final release, and a specifier that needs a number
+//! past 64 bits. Of the single `<`, `>` and `===` at most six are left (`single.rt`). So 160,000 specifiers
+//! with as many candidates take n log n comparisons. What stays specifiers times candidates: numbers past 64
+//! bits, where they are many.
 
 ghost use Rattle.std.specs.Prelude.{◌≡◌, [], ◌∷◌, ◌++◌, List, map, IfOk, OnOk};
 ghost use Rattle.std.specs.Option.{is_some};
@@ -15,8 +14,7 @@ ghost use Rattle.pep440_range.specs.Ranges.{range_of};
 ghost use Rattle.reqtable_range.specs.Sorting.{IsOfKind, SortsInto};
 ghost use Rattle.reqtable_range.specs.Together.{members_of};
 
-use crate::plain::is_without_posts;
-use crate::simple::is_simple;
+use crate::simple::{is_local, is_simple};
 use pep440_range::{RangeError, specifier_to_range};
 use pep440_specifier::{Operator, VersionSpecifier};
 use pep440_specifier_list::VersionSpecifiers;
@@ -27,9 +25,10 @@ use std::alloc::{AllocError, Global};
 pub(crate) enum Kind {
     /// All versions that can be written, tested without their local part.
     Simple,
-    /// Plain versions: without a local part, and no post-releases.
-    Plain,
-    /// None: a `===`, a `<` or `>` with a post-release, or a specifier without a range.
+    /// All versions that can be written, tested as they are: of a `==` or `!=` with a local part.
+    Local,
+    /// None, or some alone: of a `===`, a `<` of a post-release, a `>` of anything but a final release, or a
+    /// specifier without a range.
     Single,
 }
 
@@ -37,7 +36,7 @@ pub(crate) enum Kind {
 #[derive(Drop)]
 pub(crate) struct Sorted<'a> {
     pub(crate) simple: Vec<&'a VersionSpecifier>,
-    pub(crate) plain: Vec<&'a VersionSpecifier>,
+    pub(crate) local: Vec<&'a VersionSpecifier>,
     pub(crate) single: Vec<&'a VersionSpecifier>,
 }
 
@@ -50,7 +49,7 @@ pub(crate) fn sorted_members<'a>(
 {
     let mut sorted = Sorted {
         simple: Vec::new(alloc),
-        plain: Vec::new(alloc),
+        local: Vec::new(alloc),
         single: Vec::new(alloc),
     };
     for list in lists {
@@ -86,8 +85,8 @@ fn add<'a>(
             sorted.simple.push(member)?;
             Ok(())
         }
-        Kind::Plain => {
-            sorted.plain.push(member)?;
+        Kind::Local => {
+            sorted.local.push(member)?;
             Ok(())
         }
         Kind::Single => {
@@ -100,17 +99,17 @@ fn add<'a>(
 fn kind_of(alloc: Global, member: &VersionSpecifier) -> Result<Kind, AllocError>
     ensures { IfOk result (λ kind. IsOfKind kind member.now) }
 {
-    if !is_without_posts(member) {
+    if is_local(member) {
+        return Ok(Kind::Local);
+    }
+    if !is_simple(member) {
         return Ok(Kind::Single);
     }
     let there = has_range(alloc, member)?;
-    if !there {
-        return Ok(Kind::Single);
-    }
-    if is_simple(member) {
+    if there {
         Ok(Kind::Simple)
     } else {
-        Ok(Kind::Plain)
+        Ok(Kind::Single)
     }
 }
 

@@ -10,3 +10,4 @@ pub mod Specifiers
 pub mod LineCopies
 pub mod Among
 pub mod WithinBound
+pub mod Lasting

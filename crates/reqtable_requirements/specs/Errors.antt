@@ -9,7 +9,8 @@ use Rattle.pep508_error.specs.Errors.{error_text}
 use Rattle.reqtable_candidates.specs.Errors.{no_text}
 use Rattle.reqtable_requirements.specs.declared.requirements.RequirementsError.{RequirementsError}
 use Rattle.reqtable_requirements.specs.declared.requirements.RequirementsError.TheVariants.{NotText, Line}
-use Rattle.reqtable_requirements.specs.declared.requirements.RequirementsError.TheVariants.{NumberAtEnd, TooManyNodes}
+use Rattle.reqtable_requirements.specs.declared.requirements.RequirementsError.TheVariants.{NumberAtEnd}
+use Rattle.reqtable_requirements.specs.declared.requirements.RequirementsError.TheVariants.{TooManyNodes}
 use Rattle.reqtable_requirements.specs.declared.requirements.RequirementsError.TheVariants.{Memory}
 
 -- the start of the message for an invalid line: its number, and the place in bytes of what is at fault

@@ -2,6 +2,7 @@
 //! law.
 
 ghost use Rattle.std.specs.Prelude.{◌≡◌, ◌↔◌, ℕ, List, All, map, Ok, Err};
+ghost use Rattle.std.specs.List.{AllZip};
 ghost use Rattle.std.specs.List.Sorted.{IsPermutation, IsStrictlySortedBy};
 ghost use Rattle.std.specs.Ordering.{nat_cmp};
 ghost use Rattle.std.specs.Str.{IsUtf8};
@@ -9,16 +10,16 @@ ghost use Rattle.pep440_specifier.specs.Building.{IsBuilt};
 ghost use Rattle.pep440_specifier_list.specs.ListReading.{IsReadFromText};
 ghost use Rattle.pep508_diagram.specs.Question.{Valuation};
 ghost use Rattle.pep508_url.specs.Vars.{Variables};
-ghost use Rattle.pep508_tree.specs.Meaning.{NodeRecord};
+ghost use Rattle.pep508_tree.specs.Meaning.{NodeRecord, Extends};
 ghost use Rattle.reqtable_candidates.specs.TextLines.{text_lines};
 ghost use Rattle.reqtable_candidates.specs.declared.candidates.Candidate.{Candidate};
 ghost use Rattle.reqtable_answer.specs.Answer.{Admits, RowRecord, IsRow, IsAnswer};
-ghost use Rattle.reqtable_requirements.specs.Asks.{line_said, lines_of, asks_of};
+ghost use Rattle.reqtable_requirements.specs.Asks.{line_said, lines_of, asks_of, AreOfNodes};
 ghost use Rattle.reqtable_requirements.specs.FirstRefused.{HasNumberAtEnd, IsNoRequirement, IsFirstRefused};
 ghost use Rattle.reqtable_requirements.specs.LineReading.{LineRecord, NoRequirement, NumberAtEnd, line_of};
 ghost use Rattle.reqtable_requirements.specs.LineSpecifiers.{specifiers_in};
 ghost use Rattle.reqtable_requirements.specs.LineText.{IsRequirementLine, IsRequirementsText};
-ghost use Rattle.reqtable_requirements.specs.Requirements.{requirements_of, ReadsRequirements};
+ghost use Rattle.reqtable_requirements.specs.Requirements.{requirements_of, ReadsRequirements, StandsFor};
 ghost use Rattle.reqtable_requirements.specs.declared.requirements.Line.{Line};
 
 use pep440_specifier::laws::{a_read_specifier_is_built, specifier_text_is_read};
@@ -112,4 +113,13 @@ pub fn lines_of_other_packages_change_no_row()
         (candidates : List Candidate) (row : RowRecord) →
         map line_said (lines_of row.name lines) ≡ map line_said (lines_of row.name others) →
         IsRow admits (asks_of v lines) candidates row → IsRow admits (asks_of v others) candidates row }
+{}
+
+/// Lines keep the trees of their markers, and so what they stand for, while nodes are added to an interner.
+pub fn lines_last_while_nodes_are_added()
+    ensures trees { (old new : List NodeRecord) (lines : List Line) → Extends old new →
+        AreOfNodes old lines → AreOfNodes new lines }
+    ensures said { (vars : Variables) (old new : List NodeRecord) (lines : List Line)
+        (said : List LineRecord) → Extends old new →
+        AllZip (StandsFor vars old) lines said → AllZip (StandsFor vars new) lines said }
 {}

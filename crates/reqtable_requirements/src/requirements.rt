@@ -181,6 +181,7 @@ impl Requirements {
         ensures keeps { Extends interner.old.nodes interner.new.nodes }
         ensures counts { interner.new.conjunctions ≡ interner.old.conjunctions }
     {
+        // (says, before and after, that there are no more nodes than a number can count)
         let _ = interner.node_count();
         let read = Requirements::parse_within(alloc, bytes, interner, vars, usize::MAX);
         let _ = interner.node_count();

@@ -1,9 +1,10 @@
 //! Names with their fronts, by which a package is found.
 //!
-//! A front is the first eight bytes of a name as one number, as `reqtable_candidates` has it for sorting. A list
-//! of names with their fronts is dense: a step of a search reads one entry of it, and names only where fronts
-//! are equal and full: a name of seven bytes or fewer is its front, since no name has a byte 0. A front is a
-//! field with the fact that it is the name's, so that the contract of the comparison is that of names.
+//! A front is the first eight bytes of a name as one number, as `reqtable_candidates` has it for sorting. A
+//! list of names with their fronts is dense: a step of a search reads one entry of it, and names only where
+//! fronts are equal and full: a name of seven bytes or fewer is its front, since no name has a byte 0. A
+//! front is a field with the fact that it is the name's, so that the contract of the comparison is that of
+//! names.
 
 ghost use Rattle.std.specs.Prelude.{◌≡◌, ◌<◌, ◌+◌, ◌*◌, ◌^◌, true};
 ghost use Rattle.pep508_name.specs.Name.{name_cmp};

@@ -1,7 +1,7 @@
 //! The required packages, each with what is required of it and its best candidate so far.
 //!
-//! Packages are sorted by their names. A list of candidates mostly comes package by package, so the package of
-//! the candidate before is tried first.
+//! Packages are sorted by their names. A list of candidates mostly comes package by package, so the package
+//! of the candidate before is tried first.
 
 ghost use Rattle.std.specs.Prelude.{◌≡◌, ◌<◌, true, None, List, ℕ, length, IfOk, OnErr};
 ghost use Rattle.std.specs.List.{list_all};

@@ -27,7 +27,8 @@ pub(crate) fn selection_of(
     packages: Vec<Package<'_>>,
 ) -> Result<Selection, AllocError>
     requires { AreSound packages.items }
-    ensures selected { IfOk result (λ selection. (admits : Admits) (all : List Front) (read : List Candidate) →
+    ensures selected { IfOk result (λ selection.
+        (admits : Admits) (all : List Front) (read : List Candidate) →
         HaveBests admits all read packages.entry.items →
         IsSelection admits all read selection.candidates.items (map row_seen selection.answer.rows.items)) }
     ensures places { IfOk result (λ selection. All

@@ -33,11 +33,11 @@ use std::alloc::Global;
 /// extras while it is read: a row for each package that an applicable line requires. The rows are those that
 /// `MarkedLines::judge` answers for this list, with the candidates that they select in a list of their own.
 ///
-/// Each requirement's marker is evaluated once. A candidate that is no better than the best one of its package
-/// is dropped when it is read, so memory is that of the requirements and of one candidate per required
-/// package. For n bytes and P required packages that are O(n) steps, O(log P) comparisons of names for each
-/// candidate whose package is not that of the candidate before, and the tests of candidates that `answer_to`
-/// counts.
+/// Each requirement's marker is evaluated once. A candidate that is no better than the best one of its
+/// package is dropped when it is read, so memory is that of the requirements and of one candidate per
+/// required package. For n bytes and P required packages that are O(n) steps, O(log P) comparisons of names
+/// for each candidate whose package is not that of the candidate before, and the tests of candidates that
+/// `answer_to` counts.
 ///
 /// # Errors
 ///

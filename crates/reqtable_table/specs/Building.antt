@@ -7,7 +7,8 @@ use Rattle.pep508_cases.specs.Cases.{Marking, marks_of, HasMore}
 use Rattle.reqtable_requirements.specs.LineReading.{LineRecord}
 use Rattle.reqtable_groups.specs.declared.lines_by_package.Group.{Group}
 use Rattle.reqtable_table.specs.declared.table.TableError.{TableError}
-use Rattle.reqtable_table.specs.declared.table.TableError.TheVariants.{TooManyCases, TooManyCasesInAll, Memory}
+use Rattle.reqtable_table.specs.declared.table.TableError.TheVariants.{TooManyCases, TooManyCasesInAll}
+use Rattle.reqtable_table.specs.declared.table.TableError.TheVariants.{Memory}
 use Rattle.reqtable_table.specs.Kept.{KeptPackage}
 use Rattle.reqtable_table.specs.KeptLines.{kept_by}
 use Rattle.reqtable_table.specs.Cases.{HasItsCases, table_cases, Builds, BuildsWithin}

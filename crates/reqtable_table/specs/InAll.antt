@@ -16,7 +16,8 @@ cases_in_all [] = 0
 cases_in_all (cases ∷ others) = length cases + cases_in_all others
 
 -- cases of a package that some line names: realised sets of its lines, each once, no more than the limit
-pub record AreSomeCases (limit : ℕ) (lines : List LineRecord) (name : List ℕ) (sets : List Marks) : Type 0 where
+pub record AreSomeCases (limit : ℕ) (lines : List LineRecord) (name : List ℕ) (sets : List Marks)
+    : Type 0 where
   pub named : is_named name lines ≡ true
   pub rising : IsStrictlySortedBy marks_cmp sets
   pub realised : AllByRecursion (IsRealised (line_marks (lines_of name lines))) sets
@@ -32,8 +33,8 @@ pub record HasMoreInAll (limit in_all : ℕ) (lines : List LineRecord) (last : L
   pub each : AllZip (AreSomeCases limit lines) names sets
   pub more : in_all < cases_in_all sets
 
--- some package is the one up to which there are more than `in_all` cases together, and none before it has more
--- than the limit
+-- some package is the one up to which there are more than `in_all` cases together, and none before it has
+-- more than the limit
 pub record HasTooManyInAll (limit in_all : ℕ) (lines : List LineRecord) : Type 0 where
   pub last : List ℕ
   pub more : HasMoreInAll limit in_all lines last

@@ -5,7 +5,10 @@ mod asked;
 mod case_range;
 mod casing;
 mod choosing_by_case;
+#[cfg(test)]
+mod fields;
 mod kept;
+pub mod lent;
 mod room;
 mod row;
 mod runs;

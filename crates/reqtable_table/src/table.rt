@@ -4,8 +4,8 @@
 //! cut into packages. What a package has to keep (`HasItsCases`) speaks of the interner's nodes as they
 //! are, and lasts while nodes are added. A case names its lines by their numbers, and whether one of their
 //! specifiers has a pre-release is stored with it. Its range is made when the case is asked (`range`), since
-//! most cases of many lines never are. `gate/lent.py` holds the fields of a table, its packages, lines and
-//! cases against a list, so that one more copy is seen.
+//! most cases of many lines never are. The test of `fields` takes a table apart, so that one more copy is
+//! seen.
 
 ghost use Rattle.std.specs.Prelude.{◌≡◌, ◌≤◌, ◌+◌, ◌*◌, List, length, map, IfOk, IfErr, OnOk};
 ghost use Rattle.std.specs.List.{AllZip, AllByRecursion};
@@ -159,19 +159,20 @@ impl Table {
         built(alloc, requirements, interner, Room { limit, left: None })
     }
 
-    /// The table of a text's requirements, as `build` makes it, with no more than `in_all` cases of all packages
-    /// together.
+    /// The table of a text's requirements, as `build` makes it, with no more than `in_all` cases of all
+    /// packages together.
     ///
-    /// Packages are taken by name, and one is refused once it has more cases than both bounds leave, so that no
-    /// more than `in_all` are ever kept, whatever `limit` is. The cost is that of `build`.
+    /// Packages are taken by name, and one is refused once it has more cases than both bounds leave, so that
+    /// no more than `in_all` are ever kept, whatever `limit` is. The cost is that of `build`.
     ///
     /// # Errors
     ///
     /// The error of the first package, by the bytes of its name, that has more cases than it may have.
     /// `TableError::TooManyCases` if it has more than `limit`, and `limit` cases of it and all cases of the
-    /// packages before it are at most `in_all`. `TableError::TooManyCasesInAll` otherwise: its cases and those
-    /// of the packages before it are more than `in_all`. Where both bounds are passed at one package, that is
-    /// so if those before it leave fewer than `limit` cases. `TableError::Memory` when memory runs out.
+    /// packages before it are at most `in_all`. `TableError::TooManyCasesInAll` otherwise: its cases and
+    /// those of the packages before it are more than `in_all`. Where both bounds are passed at one package,
+    /// that is so if those before it leave fewer than `limit` cases. `TableError::Memory` when memory runs
+    /// out.
     pub fn build_within(
         alloc: Global,
         requirements: Requirements,
@@ -208,13 +209,6 @@ impl Table {
             Ok(place) => Some(&self.packages[place].cases),
             Err(_) => None,
         }
-    }
-
-    /// The number of packages.
-    pub fn len(&self) -> usize
-        ensures { result ≡ length self.now }
-    {
-        self.packages.len()
     }
 
     /// The number of specifiers tested since the table was built, up to `u64::MAX`. Linear in the lines.

@@ -1,7 +1,7 @@
 //! The answer of a table.
 //!
-//! Who writes many answers queries places and rows (`places`, `row_among`), so that a row that many
-//! environments share is made once (`reqs_rows`); `answer` makes all rows anew.
+//! `answer` makes all rows anew; `lent` has the calls by which a row that many environments share is made
+//! once.
 
 ghost use Rattle.std.specs.Prelude.{◌≡◌, ◌≤◌, ◌<◌, ◌+◌, List, [], length, map, get_or, option_map, All, IfOk};
 ghost use Rattle.std.specs.Prelude.{IfSome};
@@ -22,15 +22,14 @@ ghost use Rattle.reqtable_table.specs.Lasting.{StillServes};
 ghost use Rattle.reqtable_table.specs.Runs.{AreRunsOf, AreTold, IsToldIn};
 ghost use Rattle.reqtable_table.specs.Standing.{IsTable};
 
-use crate::asked::places_of;
-use crate::row::{row_at, rows_of};
+use crate::row::rows_of;
 use crate::runs::Runs;
 use crate::table::Table;
 use pep440_version::Version;
 use pep508_environment::MarkerEnvironment;
 use pep508_name::ExtraName;
 use pep508_tree::Interner;
-use reqtable_answer::{Admission, Answer, Row};
+use reqtable_answer::{Admission, Answer};
 use reqtable_candidates::Candidates;
 use reqtable_marker_cache::Setting;
 use std::alloc::{AllocError, Global};
@@ -135,85 +134,5 @@ impl Table {
             admission,
         )?;
         Ok(Answer { rows })
-    }
-
-    /// For each package the index of its active case in an environment with extras, or `None` where no line
-    /// of it applies; found as by `answer_among`. Needs memory for the list, and for the lines of one
-    /// package.
-    ///
-    /// # Errors
-    ///
-    /// `AllocError` when memory runs out.
-    pub fn places(
-        &self,
-        alloc: Global,
-        interner: &Interner,
-        environment: &MarkerEnvironment,
-        extras: &[ExtraName],
-    ) -> Result<Vec<Option<usize>>, AllocError>
-        requires { AllByRecursion (HasItsCases interner.now.nodes) self.now }
-        ensures lie { IfOk result (λ places. AllZip
-            (LiesIn interner.now.nodes (valuation_of environment.now extras.now)) self.now places.items) }
-        ensures stands { IsTable self.now }
-    {
-        let setting = Setting::new(interner, environment, extras);
-        places_of(alloc, &self.packages, self.slots, &setting)
-    }
-
-    /// The row of the package at an index in an environment with extras, or `None` if no line of it applies.
-    /// Equals its row in the answer of `answer_among`, at the cost that is stated there for one package.
-    ///
-    /// # Errors
-    ///
-    /// `AllocError` when memory runs out.
-    pub fn row_among<F: Fn(&Version, bool) -> bool>(
-        &mut self,
-        alloc: Global,
-        index: usize,
-        interner: &Interner,
-        environment: &MarkerEnvironment,
-        extras: &[ExtraName],
-        runs: &mut Runs<'_, '_>,
-        admission: &Admission<F>,
-    ) -> Result<Option<Row>, AllocError>
-        requires within { index < length self.old }
-        requires callable { F.IsAlwaysCallable admission.now }
-        requires cases { AllByRecursion (HasItsCases interner.now.nodes) self.old }
-        requires runs { AreRunsOf self.old runs.old }
-        requires told { AreTold (F.post admission.now) self.old runs.old }
-        ensures row { IfOk result (λ row. (admits : Admits) (other : KeptPackage) →
-            AnswersBy (F.post admission.now) admits →
-            IsRowIf admits interner.now.nodes (valuation_of environment.now extras.now) runs.old.candidates
-            (get_or self.old index other) (option_map row_seen row)) }
-        ensures below { IfOk result (λ row.
-            IfSome row (λ row. IsTakenBelow (length runs.old.candidates) row.outcome)) }
-        ensures kept { AllZip SamePackage self.new self.old }
-        ensures serves { StillServes interner.now.nodes interner.now.nodes self.old self.new }
-        ensures lasts { (later : List NodeRecord) → Extends interner.now.nodes later →
-            StillServes interner.now.nodes later self.old self.new }
-        ensures candidates { runs.new.candidates ≡ runs.old.candidates }
-        ensures runs { AreRunsOf self.new runs.new }
-        ensures told { AreTold (F.post admission.now) self.new runs.new }
-        ensures tests { (other : KeptPackage) → all_tests self.new ≤ all_tests self.old
-            + most_tests_in interner.now.nodes (valuation_of environment.now extras.now)
-            runs.old.candidates (get_or self.old index other) }
-        ensures once { (other : KeptPackage) →
-            IsToldIn interner.now.nodes (valuation_of environment.now extras.now)
-            (get_or self.old index other) (get_or runs.old.told index []) →
-            all_tests self.new ≤ all_tests self.old }
-    {
-        let setting = Setting::new(interner, environment, extras);
-        let packages = &mut self.packages;
-        let told = &mut runs.told;
-        row_at(
-            alloc,
-            packages,
-            index,
-            &setting,
-            runs.ordered,
-            &runs.runs,
-            told,
-            admission,
-        )
     }
 }

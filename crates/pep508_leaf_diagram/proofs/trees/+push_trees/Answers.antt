@@ -1,4 +1,5 @@
 use Rattle.std.proofs.Common.{◌∙◌, ◌+◌, ◌-◌, ◌/◌, ◌==◌, ◌<◌, [], refl, ap, arith}
+use Rattle.std.proofs.lemmas.Result.{IfOk-weaker}
 use Rattle.pep508_leaf_diagram.specs.declared.narrow.Leaves.{Leaves}
 use Rattle.pep508_leaf_diagram.specs.Leaves.{leaf_at}
 use Rattle.pep508_leaf_diagram.proofs.LeafTrees.{narrow_same, pushed_both}
@@ -26,13 +27,15 @@ push_trees-returns-clause-pushed t c =
     let first = c.in_ok-front.front.root in
     let second = c.in_ok-back.back.root in
     let some : from < middle = omega (arith, c.requires.order, c.if-from-to.false, c.if-from-to-2.false) in
+    IfOk-weaker c.push_halves-2.result _ _ (λ done last.
     pushed_both c.push_halves.new.interner.nodes c.push_halves-2.new.interner.nodes
     (leaf_at [] c.deref.result.now first) (leaf_at [] c.deref-2.result.now second) h from middle to
     c.args.trees.now.items c.push_halves.new.trees.items c.push_halves-2.new.trees.items
-    c.in_ok-push_halves-2.ensures.keeps c.in_ok-push_halves.ensures.pushed c.in_ok-push_halves-2.ensures.pushed
+    c.push_halves-2.ensures.keeps c.in_ok-push_halves.ensures.pushed last
     (λ n low high v.
     ap (λ x. x == n) (ap (λ ns. leaf_at [] ns first v) c.deref.ensures.value ∙ front.leaf v)
     ∙ narrow_same lower (h v) n low high (λ e. omega (arith, e, high)))
     (λ n low high v.
     ap (λ x. x == n) (ap (λ ns. leaf_at [] ns second v) c.deref-2.ensures.value ∙ back.leaf v)
-    ∙ narrow_same upper (h v) n low high (λ e. omega (arith, e, low, some)))
+    ∙ narrow_same upper (h v) n low high (λ e. omega (arith, e, low, some))))
+    c.push_halves-2.ensures.pushed

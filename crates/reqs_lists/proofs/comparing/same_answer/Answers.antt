@@ -1,6 +1,6 @@
 use Rattle.std.proofs.Common.{◌≤◌, ◌∷◌, [], inr, length}
 use Rattle.std.proofs.lemmas.Result.{err_from_is_err_and}
-use Rattle.reqtable_compare.proofs.Kept.{lines_kept}
+use Rattle.reqtable_requirements.proofs.Lasting.{lines_kept}
 use Rattle.reqs_lists.specs.Comparison.{IsFewSame, CantBeWithin, OutgrowsOrLong, SamePasses}
 use Rattle.reqs_lists.specs.Lists.{IsOfLists, two_lists}
 use Rattle.reqs_lists.proofs.Given.{given_within, left_passes, right_passes, two_read, wider}

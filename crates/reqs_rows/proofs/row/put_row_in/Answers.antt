@@ -91,18 +91,18 @@ returns-in-None-clause-put g c = λ admits other by.
 
 pub returns-in_err-row-clause-tests : goal.returns-in_err-row-clause-tests
 returns-in_err-row-clause-tests g c = λ other.
-    subst (λ candidates. all_tests c.row_among.new.self ≤ all_tests c.args.table.now
+    subst (λ candidates. all_tests c.row_among.new.table ≤ all_tests c.args.table.now
     + most_tests_in (nodes_in c.args.asked.now) (valuation_in c.args.asked.now) candidates (get_or c.args.table.now c.args.index other))
     c.requires.candidates (c.row_among.ensures.tests other)
 
 pub returns-in-Some-row-clause-tests : goal.returns-in-Some-row-clause-tests
 returns-in-Some-row-clause-tests g c = λ other.
-    subst (λ candidates. all_tests c.row_among.new.self ≤ all_tests c.args.table.now
+    subst (λ candidates. all_tests c.row_among.new.table ≤ all_tests c.args.table.now
     + most_tests_in (nodes_in c.args.asked.now) (valuation_in c.args.asked.now) candidates (get_or c.args.table.now c.args.index other))
     c.requires.candidates (c.row_among.ensures.tests other)
 
 pub returns-in-None-clause-tests : goal.returns-in-None-clause-tests
 returns-in-None-clause-tests g c = λ other.
-    subst (λ candidates. all_tests c.row_among.new.self ≤ all_tests c.args.table.now
+    subst (λ candidates. all_tests c.row_among.new.table ≤ all_tests c.args.table.now
     + most_tests_in (nodes_in c.args.asked.now) (valuation_in c.args.asked.now) candidates (get_or c.args.table.now c.args.index other))
     c.requires.candidates (c.row_among.ensures.tests other)

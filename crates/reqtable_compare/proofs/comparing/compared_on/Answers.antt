@@ -1,10 +1,10 @@
 use Rattle.std.proofs.Common.{◌∙◌, map, sym}
 use Rattle.std.proofs.lemmas.Result.{err_from_is_err_and}
-use Rattle.reqtable_compare.proofs.Answering.{refusal_of, nodes_kept, all_have_kept, answered}
+use Rattle.reqtable_compare.proofs.Answering.{refusal_of, all_have_kept, answered}
 use Rattle.reqtable_compare.proofs.Bounded.{by_bounds}
 use Rattle.reqtable_compare.proofs.Outside.{outside}
 use Rattle.reqtable_compare.proofs.Whole.{left_refused, right_refused}
-use Rattle.reqtable_compare.proofs.Kept.{lines_kept}
+use Rattle.reqtable_requirements.proofs.Lasting.{lines_kept, nodes_kept}
 use Rattle.reqtable_compare.proofs.comparing.compared_on.Goals as goal
 
 pub returns-in_err-left_table-clause-compared : goal.returns-in_err-left_table-clause-compared

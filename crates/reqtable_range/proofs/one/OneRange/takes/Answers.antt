@@ -10,15 +10,15 @@ returns-then-not-simple c =
     first_told c.simple_range_tells_what_all_take.ensures c.args.self.now c.args.version.now c.requires c.in_ok-simple.simple c.in_ok-simple.ensures
     c.if-not-simple.true
 
-pub returns-then-not-beside : goal.returns-then-not-beside
-returns-then-not-beside c =
+pub returns-then-not-local : goal.returns-then-not-local
+returns-then-not-local c =
     second_told c.simple_range_tells_what_all_take.ensures c.args.self.now c.args.version.now c.requires c.in_ok-simple.simple c.in_ok-simple.ensures
-    c.if-not-simple.false c.in_ok-beside.beside c.in_ok-beside.ensures c.if-not-beside.true
+    c.if-not-simple.false c.contains-local.result c.contains-local.ensures c.if-not-local.true
 
 pub returns : goal.returns
 returns c =
     IfOk-weaker c.each_takes.result _ _
     (λ taken h. third_told c.simple_range_tells_what_all_take.ensures c.args.self.now c.args.version.now c.requires c.in_ok-simple.simple
-    c.in_ok-simple.ensures c.if-not-simple.false c.in_ok-beside.beside c.in_ok-beside.ensures c.if-not-beside.false taken
+    c.in_ok-simple.ensures c.if-not-simple.false c.contains-local.result c.contains-local.ensures c.if-not-local.false taken
     (h ∙ ap (λ members. matches_all (lent members) c.args.version.now) c.deref.ensures.value))
     c.each_takes.ensures

@@ -1,0 +1,5 @@
+use Rattle.reqtable_requirements.proofs.Asked.{are_of_nodes}
+use Rattle.reqtable_table.proofs.fields.built.Goals as goal
+
+pub build-requires : goal.build-requires
+build-requires c = record { trees = are_of_nodes _ _ _ c.in-Ok.ensures.answered.0 c.in-Ok.ensures.answered.2 }
