@@ -2,8 +2,9 @@
 
 It stands in $FOWLYORE_CACHE, else in $XDG_CACHE_HOME/fowlyore, else in ~/.cache/fowlyore. It holds folders (a proved
 library, a built program), packed, and verdicts, a line each. An entry is written beside and renamed, and its sum is a
-verdict, so that half of one, or a damaged one, is never taken; what was not taken for longest goes first once all is
-more than MOST_BYTES. Who can write the store decides what a gate that reads it takes for proved.
+verdict, so that half of one, or a damaged one, is never taken; what was not used for longest goes first once all is
+more than MOST_BYTES. What was used in the last hours stays all the same: a run finds an entry long before it takes it.
+Who can write the store decides what a gate that reads it takes for proved.
 """
 
 import errno
@@ -17,6 +18,8 @@ import zlib
 from crates import sum_of_file
 
 MOST_BYTES = 10_000_000_000
+# A run that found an entry has taken it after so many seconds.
+IN_USE = 4 * 3600
 # A file that was being written for longer than this was left by a run that was killed.
 LEFT_OVER = 6 * 3600
 FULL = (errno.ENOSPC, errno.EDQUOT)
@@ -60,6 +63,7 @@ class Store:
                     if inside is None:
                         return False
                     left.discard(inside.name)
+            os.utime(path)
             return True
         except (OSError, EOFError, tarfile.TarError, zlib.error):
             return False
@@ -144,8 +148,8 @@ class Store:
                 entries.append((seen.st_mtime, seen.st_size, it.path))
         entries.sort()
         total = sum(size for _, size, _ in entries)
-        for _, size, path in entries:
-            if total <= MOST_BYTES:
+        for used, size, path in entries:
+            if total <= MOST_BYTES or used > time.time() - IN_USE:
                 break
             remove(path)
             total -= size
