@@ -2,9 +2,11 @@
 
 import collections
 import os
+import pathlib
 import re
 import shutil
 import tempfile
+import unittest.mock
 
 import kept
 from crates import TOP
@@ -116,6 +118,24 @@ def cut_short():
             return "it was taken"
         _, said = ran(PROVE, room, folder)
     return None if "gate: 1 proved, 0 taken" in said else "the crate was not proved anew"
+
+
+def full():
+    """Why an entry that a run found is gone once the store is full, or one that nothing used for long is still there, or None."""
+    with tempfile.TemporaryDirectory() as folder, tempfile.TemporaryDirectory() as room:
+        store, parts = Store(folder), ["it"]
+        pathlib.Path(room, *parts).write_text("it")
+        for name in ("found", "unused"):
+            store.keep(name, room, parts)
+        for path in pathlib.Path(folder).rglob("*.*"):
+            os.utime(path, (0, 0))
+        is_found = store.has("found", parts)
+        with unittest.mock.patch("store.MOST_BYTES", 0):
+            store.keep("another", room, parts)
+        for name in ("found", "another"):
+            if not (is_found and store.take(name, room, parts)):
+                return f"the entry {name} is gone"
+        return "what nothing used is still there" if store.has("unused", parts) else None
 
 
 class TwoCrates:
@@ -254,6 +274,7 @@ def what_an_edit_rests_on():
 def told():
     """The name of each thing that is tried, and why it isn't as it has to be, or None."""
     yield Tried("an entry that is cut short", cut_short())
+    yield Tried("a store that is full", full())
     yield Tried("a failing test that the store knows otherwise", taken_over())
     yield Tried("what a check sees of the crates below", what_a_check_sees())
     yield Tried("what the verdict on an edit rests on", what_an_edit_rests_on())

@@ -1,7 +1,7 @@
 #!/usr/bin/env bash
 # Tests of the Python package by the newest interpreter that there is, over the library that `./build reqs_c` makes; of its types, by
 # mypy; of its wheel, installed into an environment of its own; and packaging's own tests, where they were fetched. Or the package's
-# tests and its wheel by each older interpreter from 3.8 on.
+# tests and its wheel by each older interpreter from 3.8 on, and its tests by the newest one, which calls the library by ctypes.
 #
 #     python.sh [--older] [LIBRARY]
 #
@@ -49,7 +49,8 @@ done
 # The package's extension, one file for each interpreter from 3.10 on. It is compiled by the newest, whose headers have to be there.
 extension=$work/_extension.abi3.so
 newest=$(printf '%s\n' "${!interpreters[@]}" | sort -V | tail -n 1)
-if ! "${interpreters[$newest]}" "$top/python/extension/build.py" "$extension" 2>"$work/said"; then
+python=${interpreters[$newest]}
+if ! "$python" "$top/python/extension/build.py" "$extension" 2>"$work/said"; then
     echo "not tried: the extension of the Python package: $(cat "$work/said")"
     extension=no
 fi
@@ -90,7 +91,7 @@ if [ "$older" ]; then
     done
     # The package's sources by the grammar of the oldest, whether that is there or not.
     for source in "$top"/python/fowlyore/*.py; do
-        if "${interpreters[$newest]}" -c 'import ast, sys; ast.parse(open(sys.argv[1]).read(), feature_version=(3, 8))' "$source"; then
+        if "$python" -c 'import ast, sys; ast.parse(open(sys.argv[1]).read(), feature_version=(3, 8))' "$source"; then
             passed=$((passed + 1))
         else
             fail "$source isn't of Python 3.8"
@@ -98,11 +99,9 @@ if [ "$older" ]; then
     done
     unset "interpreters[$newest]"
     asked=("${!interpreters[@]}")
-    [ ${#asked[@]} -gt 0 ] || finish
 fi
 
-# The newest is asked by ctypes too. All but the newest try fewer random texts, unless a number is given. The files that take
-# longest come first.
+# All but the newest by the extension try fewer random texts, unless a number is given. The files that take longest come first.
 processors=$(nproc)
 files=(test_extension test_command test_processes test_properties test_lists)
 for file in "$top"/python/tests/test_*.py; do
@@ -117,9 +116,9 @@ for version in "${asked[@]}"; do
     begin_tests "$version" "${interpreters[$version]}" "$way" "$few"
 done
 runs=("${asked[@]}")
-if [ "$extension" != no ] && [ -z "$older" ]; then
+if [ "$extension" != no ] && [ "$older" ]; then
     runs+=("$newest by ctypes")
-    begin_tests "$newest by ctypes" "${interpreters[$newest]}" no "${FOWLYORE_RANDOM-1000}"
+    begin_tests "$newest by ctypes" "$python" no "${FOWLYORE_RANDOM-1000}"
 fi
 wait
 
