@@ -72,7 +72,7 @@ module _ (extras : List (List ℕ)) (lines : List LineRecord) (candidates : List
         rest,
         (rows, are.0, refl),
         text_is (suc number) environments answers rest are.1 refl,
-        e ∙ append_assoc line (answer ++ []) rest ∙ ap (λ t. line ++ (t ++ rest)) shown,
+        e ∙ ap (λ t. line ++ t ++ rest) shown,
       )
 
 -- as objects

@@ -65,7 +65,7 @@ module _ (format : Format) (returns : Bor VersionRecord → Bool → Bool → Ty
       texts (get_or known at []) (are at other (omega (arith, below, long)))
 
 -- rows before which others stand, where some do
-some_rows : List RowRecord → Bool
+abbrev pub some_rows : List RowRecord → Bool
 some_rows [] = false
 some_rows (row ∷ rows) = true
 

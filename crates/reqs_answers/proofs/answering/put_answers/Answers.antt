@@ -1,4 +1,5 @@
-use Rattle.std.proofs.Common.{◌∙◌, ap, sym, subst}
+use Rattle.std.proofs.Common.{◌∙◌, ◌++◌, ap}
+use Rattle.std.proofs.lemmas.Result.{on_ok_weaker}
 use Rattle.reqtable_table.proofs.Same.{all_same, packages_on, keeps}
 use Rattle.reqs_answers.specs.Ready.{nodes_in}
 use Rattle.reqs_answers.specs.Frames.{opening}
@@ -37,4 +38,10 @@ loop-place-preserved g c =
     }
 
 pub returns : goal.returns
-returns g c = λ said k. ?returns
+returns g c =
+    let query = c.args.query.now in
+    on_ok_weaker c.put_closing.result
+    (λ h said k.
+    closed query.extras.now said query.candidates.now c.args.environments.now query.format c.loop-place.place
+    c.loop-place.run.text.whole c.put_closing.new.text.whole c.loop-place-test.false (c.loop-place.invariant.goes.answers said k) h)
+    c.put_closing.ensures
