@@ -140,8 +140,8 @@ returns-in_err-put_row-clause-tests g c =
     (tests_more nodes v candidates first c.loop-index.table c.put_row.new.table i no_package c.loop-index.invariant.same below
     c.loop-index.invariant.tests (c.put_row.ensures.tests no_package))
 
-pub returns-in_err-separate-clause-tests : goal.returns-in_err-separate-clause-tests
-returns-in_err-separate-clause-tests g c =
+pub returns-in_err-later-clause-tests : goal.returns-in_err-later-clause-tests
+returns-in_err-later-clause-tests g c =
     tests_front (nodes_in c.args.asked.now) (valuation_in c.args.asked.now) (candidates_in c.args.asked.now) c.args.table.now
     c.loop-index.table c.loop-index.index c.loop-index.invariant.tests
 
@@ -177,11 +177,11 @@ loop-index-preserved g c =
           put.others c.loop-index.invariant.known;
       put = λ admits by.
           subst (λ l. PutsUpTo format admits nodes v candidates (take (i + 1) first) l c.args.pieces.now.whole c.put_row.new.pieces.whole)
-          (sym c.in_ok-separate.ensures.later)
+          (sym c.in_ok-later.ensures.later)
           (row_put format admits nodes v candidates first i no_package below (get_or places i None) c.loop-index.later
           c.args.pieces.now.whole c.loop-index.pieces.whole c.separate.new.pieces.whole c.put_row.new.pieces.whole
           (c.loop-index.invariant.put admits by) (at_zip (LiesIn nodes v) first places i no_package None c.requires.lie below)
-          c.in_ok-separate.ensures.whole
+          c.in_ok-later.ensures.whole
           (puts_same format returns nodes candidates (get_or now i no_package) (get_or first i no_package)
           (at_zip SamePackage now first i no_package no_package same under) admits v c.separate.new.pieces.whole
           c.put_row.new.pieces.whole (put.put admits no_package by)));
