@@ -8,4 +8,4 @@ mod row_texts;
 mod separating;
 
 pub use row_query::Query;
-pub use row_texts::RowTexts;
+pub use row_texts::{RowTexts, text_for};
