@@ -18,8 +18,8 @@ use Rattle.reqtable_table.specs.Answers.{SamePackage}
 use Rattle.reqtable_table.specs.Kept.{KeptPackage, KeepsAll}
 use Rattle.reqs_json.specs.declared.format.Format.{Format}
 use Rattle.reqs_json.specs.declared.format.Format.TheVariants.{Text, Json}
-use Rattle.reqs_json.specs.Lines.{value_text, line_of}
-use Rattle.reqs_json.specs.Rows.{rows_in, environment_value, environment_values, answers_value}
+use Rattle.reqs_json.specs.Lines.{value_text}
+use Rattle.reqs_json.specs.Rows.{rows_in, environment_value, environment_values}
 use Rattle.reqs_json.proofs.Joined.{items_front, environment_is, whole}
 use Rattle.reqs_answers.specs.Check.{on_request}
 use Rattle.reqs_answers.specs.Frames.{opening, head, foot, closing}

@@ -1,5 +1,5 @@
 -- What holds while environments are answered goes on to hold.
-use Rattle.std.proofs.Common.{◌≡◌, ◌∙◌, ◌++◌, ℕ, Bool, List, ap, sym, subst}
+use Rattle.std.proofs.Common.{Bool}
 use Rattle.std.specs.Borrow.{Bor}
 use Rattle.pep440_version.specs.Record.{VersionRecord}
 use Rattle.reqs_pieces.specs.Pieces.{PiecesRecord}

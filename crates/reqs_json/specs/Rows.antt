@@ -69,7 +69,8 @@ between Json = codes ","
 abbrev pub rows_in : Format → List Candidate → Bool → List RowRecord → List ℕ
 rows_in format candidates later [] = []
 rows_in format candidates later (row ∷ rows) =
-    (if later then between format else []) ++ (row_in format candidates row ++ rows_in format candidates true rows)
+    (if later then between format else [])
+    ++ (row_in format candidates row ++ rows_in format candidates true rows)
 
 -- ---- for environments
 
