@@ -2,4 +2,5 @@ pub mod Selected
 pub mod Whole
 pub mod Numbered
 pub mod Formats
-pub mod Objects
+pub mod Framed
+pub mod Ready

@@ -1,3 +1,5 @@
 pub mod Texts
 pub mod Check
 pub mod Matrix
+pub mod Frames
+pub mod Ready

@@ -10,7 +10,9 @@
 //! ```
 
 mod admitting;
+mod answering;
 mod checks;
+mod frames;
 pub mod laws;
 mod matrices;
 

@@ -5,31 +5,22 @@
 //! the very definition by which `check` is stated; that it is what `check` writes is then a law, since an
 //! answer has one text.
 
-ghost use Rattle.std.specs.Prelude.{◌≡◌, ◌≢◌, ◌≤◌, ◌++◌, ◌∷◌, [], List, length, map, codes};
-ghost use Rattle.std.specs.Prelude.{IfErr, IfOk, OnOk, string_bytes};
-ghost use Rattle.std.specs.List.{AllZip, AllByRecursion};
+ghost use Rattle.std.specs.Prelude.{◌≡◌, ◌≢◌, ◌≤◌, List, length, map, IfErr};
+ghost use Rattle.std.specs.List.{AllZip};
 ghost use Rattle.pep508_url.specs.Vars.{Variables};
-ghost use Rattle.reqtable_answer.specs.Admission.{AnswersBy};
 ghost use Rattle.reqtable_requirements.specs.Asks.{AreOfNodes};
 ghost use Rattle.reqtable_requirements.specs.LineReading.{LineRecord};
 ghost use Rattle.reqtable_requirements.specs.Requirements.{StandsFor};
-ghost use Rattle.reqtable_table.specs.Cases.{HasItsCases};
-ghost use Rattle.reqtable_table.specs.Kept.{KeepsAll};
-ghost use Rattle.reqtable_table.specs.Runs.{AreRunsOf, AreTold};
 ghost use Rattle.reqs_io_faults.specs.declared.fault.Input.TheVariants.{First, Second};
 ghost use Rattle.reqs_io_faults.specs.Faults.{IsPlain, IsOfTexts};
 ghost use Rattle.reqs_io_faults.specs.Inputs.{environments_from};
 ghost use Rattle.reqs_io_faults.specs.Within.{Bounded};
-ghost use Rattle.reqs_answers.specs.Check.{on_request};
-ghost use Rattle.reqs_json.specs.declared.format.Format.TheVariants.{Json};
-ghost use Rattle.reqs_answers.specs.Matrix.{environment_line, IsMatrixText, IsMatrixIn, AreRead, AnswersAll};
-ghost use Rattle.reqs_answers.specs.Matrix.{TablesWithin, RunsMatrix, WritesText, IsRead, PassesIn};
+ghost use Rattle.reqs_answers.specs.Matrix.{AreRead, AnswersAll, TablesWithin, RunsMatrix, WritesText};
+ghost use Rattle.reqs_answers.specs.Matrix.{IsRead, PassesIn};
 ghost use Rattle.reqs_answers.specs.Matrix.{OutgrowsOrOver, unbuilt, RunsMatrixWithin};
 ghost use Rattle.reqs_answers.specs.Texts.{behind_lines, texts_of};
 
-use crate::admitting::is_admitted;
-use pep440_version::Version;
-use pep508_environment::MarkerEnvironment;
+use crate::answering::answers_text;
 use pep508_name::ExtraName;
 use pep508_tree::Interner;
 use pep508_url::Vars;
@@ -37,15 +28,12 @@ use reqs_io_faults::{
     Bounds, Excess, Input, RunFault, Status, read_candidates, read_environments, read_extras,
     read_input, requirements_within,
 };
-use reqs_json::{Format, environment_text};
+use reqs_json::Format;
 use reqs_pieces::Pieces;
-use reqs_rows::RowTexts;
-use reqtable_answer::Admission;
-use reqtable_candidates::Candidates;
+use reqs_rows::Query;
 use reqtable_requirements::Requirements;
-use reqtable_table::lent::package_count;
-use reqtable_table::{Runs, Table, TableError};
-use std::alloc::{AllocError, Global};
+use reqtable_table::{Table, TableError};
+use std::alloc::Global;
 use std::io::{Read, Write};
 
 /// The size of the output buffer, in bytes.
@@ -65,8 +53,8 @@ struct Request {
 ///
 /// All inputs are read whole, in this order; then the extras are parsed as names, and then each input. Then
 /// one table of the requirements is built, by `Table::build`, from which all environments are answered.
-/// Before the first write everything is decided, and all memory for writing is allocated: in text format each
-/// distinct row is kept once, however many environments have it; an object is kept whole.
+/// Before the first write everything is decided, and all memory for writing is allocated: each distinct row
+/// is kept once, however many environments have it.
 ///
 /// # Errors
 ///
@@ -246,16 +234,14 @@ fn matrix_behind(
 {
     let environments = read_environments(alloc, Input::Second, environments)?;
     let candidates = read_candidates(alloc, Input::Third, candidates)?;
-    let mut table = table_of(alloc, requirements, interner, request.limit, request.bounds)?;
-    match answers_text(
-        alloc,
-        &mut table,
+    let table = table_of(alloc, requirements, interner, request.limit, request.bounds)?;
+    let query = Query {
         interner,
-        &environments,
         extras,
-        &candidates,
-        request.format,
-    ) {
+        candidates: &candidates,
+        format: request.format,
+    };
+    match answers_text(alloc, table, &query, &environments) {
         Ok(text) => Ok(text),
         Err(_) => Err(RunFault::Memory),
     }
@@ -301,187 +287,4 @@ fn unbuilt(error: TableError, limit: u64, most: u64) -> RunFault
         TableError::TooManyCasesInAll => RunFault::TooMany(Excess::Cases { input, most }),
         TableError::Memory => RunFault::Memory,
     }
-}
-
-/// The answers of a table for all environments with the extras, in a format.
-fn answers_text(
-    alloc: Global,
-    table: &mut Table,
-    interner: &Interner,
-    environments: &[MarkerEnvironment],
-    extras: &[ExtraName],
-    candidates: &Candidates,
-    format: Format,
-) -> Result<Pieces, AllocError>
-    requires { AllByRecursion (HasItsCases interner.now.nodes) table.old }
-    ensures { IfOk result (λ text. (said : List LineRecord) → KeepsAll interner.now.nodes table.old said →
-        IsMatrixIn format on_request extras.now said candidates.now environments.now text.whole) }
-{
-    let ordered = candidates.in_order(alloc)?;
-    let mut runs = table.runs(alloc, &ordered)?;
-    let admission = Admission::new(|version, named| is_admitted(version, named));
-    answers_in(
-        alloc,
-        table,
-        interner,
-        environments,
-        extras,
-        &mut runs,
-        &admission,
-        candidates,
-        format,
-    )
-}
-
-/// The answers of a table for all environments with the extras, in a format, selected among the candidates in
-/// `runs`.
-fn answers_in<F: Fn(&Version, bool) -> bool>(
-    alloc: Global,
-    table: &mut Table,
-    interner: &Interner,
-    environments: &[MarkerEnvironment],
-    extras: &[ExtraName],
-    runs: &mut Runs<'_, '_>,
-    admission: &Admission<F>,
-    candidates: &Candidates,
-    format: Format,
-) -> Result<Pieces, AllocError>
-    requires cases { AllByRecursion (HasItsCases interner.now.nodes) table.old }
-    requires callable { F.IsAlwaysCallable admission.now }
-    requires admits { AnswersBy (F.post admission.now) on_request }
-    requires runs { AreRunsOf table.old runs.old }
-    requires told { AreTold (F.post admission.now) table.old runs.old }
-    requires candidates { runs.old.candidates ≡ candidates.now }
-    ensures { IfOk result (λ text. (said : List LineRecord) → KeepsAll interner.now.nodes table.old said →
-        IsMatrixIn format on_request extras.now said candidates.now environments.now text.whole) }
-{
-    match format {
-        Format::Text => answers_among(
-            alloc,
-            table,
-            interner,
-            environments,
-            extras,
-            runs,
-            admission,
-            candidates,
-        ),
-        Format::Json => objects_among(
-            alloc,
-            table,
-            interner,
-            environments,
-            extras,
-            runs,
-            admission,
-            candidates,
-        ),
-    }
-}
-
-/// The object of a table's answers for all environments.
-fn objects_among<F: Fn(&Version, bool) -> bool>(
-    alloc: Global,
-    table: &mut Table,
-    interner: &Interner,
-    environments: &[MarkerEnvironment],
-    extras: &[ExtraName],
-    runs: &mut Runs<'_, '_>,
-    admission: &Admission<F>,
-    candidates: &Candidates,
-) -> Result<Pieces, AllocError>
-    requires cases { AllByRecursion (HasItsCases interner.now.nodes) table.old }
-    requires callable { F.IsAlwaysCallable admission.now }
-    requires admits { AnswersBy (F.post admission.now) on_request }
-    requires runs { AreRunsOf table.old runs.old }
-    requires told { AreTold (F.post admission.now) table.old runs.old }
-    requires candidates { runs.old.candidates ≡ candidates.now }
-    ensures { IfOk result (λ text. (said : List LineRecord) → KeepsAll interner.now.nodes table.old said →
-        IsMatrixIn Json on_request extras.now said candidates.now environments.now text.whole) }
-{
-    let mut text = Pieces::new(alloc, environments.len().saturating_add(2));
-    open_object(alloc, &mut text)?;
-    for (place, environment) in environments.iter().enumerate() {
-        let answer = table.answer_among(alloc, interner, environment, extras, runs, admission)?;
-        let object = environment_text(alloc, place > 0, place + 1, &answer, candidates)?;
-        put(&mut text, object)?;
-    }
-    close_object(alloc, &mut text)?;
-    Ok(text)
-}
-
-/// Appends the start of the object, before all environments.
-fn open_object(alloc: Global, text: &mut Pieces) -> Result<(), AllocError>
-    ensures { OnOk result (text.new.whole ≡ text.old.whole ++ codes "{\"environments\":[") }
-{
-    let piece = String::from_str(alloc, "{\"environments\":[")?;
-    put(text, piece)
-}
-
-/// Appends the end of the object, after all environments.
-fn close_object(alloc: Global, text: &mut Pieces) -> Result<(), AllocError>
-    ensures { OnOk result (text.new.whole ≡ text.old.whole ++ codes "]}\n") }
-{
-    let piece = String::from_str(alloc, "]}\n")?;
-    put(text, piece)
-}
-
-/// Appends a new piece to a text.
-fn put(text: &mut Pieces, piece: String) -> Result<(), AllocError>
-    ensures { OnOk result (text.new.whole ≡ text.old.whole ++ string_bytes piece) }
-{
-    let place = text.add(piece)?;
-    text.append(place)
-}
-
-/// The lines of a table's answers for all environments, each answer after its environment's line.
-fn answers_among<F: Fn(&Version, bool) -> bool>(
-    alloc: Global,
-    table: &mut Table,
-    interner: &Interner,
-    environments: &[MarkerEnvironment],
-    extras: &[ExtraName],
-    runs: &mut Runs<'_, '_>,
-    admission: &Admission<F>,
-    candidates: &Candidates,
-) -> Result<Pieces, AllocError>
-    requires cases { AllByRecursion (HasItsCases interner.now.nodes) table.old }
-    requires callable { F.IsAlwaysCallable admission.now }
-    requires admits { AnswersBy (F.post admission.now) on_request }
-    requires runs { AreRunsOf table.old runs.old }
-    requires told { AreTold (F.post admission.now) table.old runs.old }
-    requires candidates { runs.old.candidates ≡ candidates.now }
-    ensures { IfOk result (λ text. (said : List LineRecord) → KeepsAll interner.now.nodes table.old said →
-        IsMatrixText on_request extras.now said candidates.now 1 environments.now text.whole) }
-{
-    let room = environments
-        .len()
-        .saturating_mul(package_count(table).saturating_add(1));
-    let mut text = Pieces::new(alloc, room);
-    let mut rows = RowTexts::new(alloc);
-    for (place, environment) in environments.iter().enumerate() {
-        put_line(alloc, &mut text, place + 1)?;
-        rows.put_answer(
-            alloc,
-            table,
-            interner,
-            environment,
-            extras,
-            runs,
-            admission,
-            candidates,
-            &mut text,
-        )?;
-    }
-    Ok(text)
-}
-
-/// Appends the line of an environment to a text.
-fn put_line(alloc: Global, text: &mut Pieces, number: usize) -> Result<(), AllocError>
-    ensures whole { OnOk result (text.new.whole ≡ text.old.whole ++ environment_line number) }
-    ensures texts { OnOk result (text.new.texts ≡ text.old.texts ++ environment_line number ∷ []) }
-{
-    let line = format!(in alloc; "env {number}\n")?;
-    let piece = text.add(line)?;
-    text.append(piece)
 }

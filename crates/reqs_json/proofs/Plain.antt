@@ -13,7 +13,7 @@ use Rattle.reqtable_answer.specs.Answer.{RowRecord}
 use Rattle.reqs_json.specs.Faults.{error_value}
 use Rattle.reqs_json.specs.Lines.{number_of, value_or_null}
 use Rattle.reqs_json.specs.declared.faults.Place.{Place}
-use Rattle.reqs_json.specs.Rows.{version_value, package_value, answer_value, environment_value}
+use Rattle.reqs_json.specs.Rows.{version_value, package_value, answer_value}
 
 -- those of a list's members, where each has none
 pub plain_items : {X : Type 0} (value_of : X → Data) → ((x : X) → has_float (value_of x) ≡ false) → (xs : List X)
@@ -48,10 +48,6 @@ plain_package candidates row = rw (plain_texts row.extras, plain_version candida
 pub plain_answer : (candidates : List Candidate) (rows : List RowRecord)
     → has_float (answer_value candidates rows) ≡ false
 plain_answer candidates rows = rw (plain_items (package_value candidates) (plain_package candidates) rows) refl
-
-pub plain_environment : (candidates : List Candidate) (number : ℕ) (rows : List RowRecord)
-    → has_float (environment_value candidates number rows) ≡ false
-plain_environment candidates number rows = rw (plain_items (package_value candidates) (plain_package candidates) rows) refl
 
 plain_number : (number : Option ℕ) → has_float (value_or_null number_of number) ≡ false
 plain_number = plain_or_null number_of (λ number. refl)

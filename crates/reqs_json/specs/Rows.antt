@@ -1,5 +1,5 @@
 -- The rows of an answer as JSON values, and their text in each format.
-use Rattle.std.specs.Prelude.{◌≡◌, ℕ, suc, List, [], ◌∷◌, codes}
+use Rattle.std.specs.Prelude.{◌≡◌, ℕ, suc, List, [], ◌∷◌, ◌++◌, Bool, true, codes, if◌then◌else◌}
 use Rattle.std.specs.Option.{option_map_or}
 use Rattle.std.specs.List.{slice_get}
 use Rattle.pep440_version.specs.Print.{version_text}
@@ -9,10 +9,10 @@ use Rattle.reqtable_candidates.specs.declared.candidates.Candidate.{Candidate}
 use Rattle.reqtable_answer.specs.declared.answer.Outcome.{Outcome}
 use Rattle.reqtable_answer.specs.declared.answer.Outcome.TheVariants.{Taken, Nothing, Direct}
 use Rattle.pep508_requirement_text.specs.FrontReading.{Front}
-use Rattle.reqtable_answer.specs.Answer.{Admits, RowRecord, IsAnswer, answer_text}
+use Rattle.reqtable_answer.specs.Answer.{Admits, RowRecord, IsAnswer, row_text, answer_text}
 use Rattle.reqs_json.specs.declared.format.Format.{Format}
 use Rattle.reqs_json.specs.declared.format.Format.TheVariants.{Text, Json}
-use Rattle.reqs_json.specs.Lines.{array_of, number_of, line_of}
+use Rattle.reqs_json.specs.Lines.{array_of, number_of, line_of, value_text}
 
 -- the outcome of a package, in one word
 abbrev pub outcome_word : Outcome → List ℕ
@@ -52,6 +52,25 @@ rows_text Json candidates rows = line_of (answer_value candidates rows)
 abbrev pub IsAnswerIn : Format → Admits → List Front → List Candidate → List ℕ → Type 0
 IsAnswerIn format admits asks candidates text =
     (rows : List RowRecord) × IsAnswer admits asks candidates rows × (text ≡ rows_text format candidates rows)
+
+-- ---- row by row
+
+-- the text of a row in a format: its line, or its object
+abbrev pub row_in : Format → List Candidate → RowRecord → List ℕ
+row_in Text candidates row = row_text candidates row
+row_in Json candidates row = value_text (package_value candidates row)
+
+-- what separates two rows
+abbrev pub between : Format → List ℕ
+between Text = []
+between Json = codes ","
+
+-- the rows of an environment one after another, separated, also from what comes before if `later`
+abbrev pub rows_in : Format → List Candidate → Bool → List RowRecord → List ℕ
+rows_in format candidates later [] = []
+rows_in format candidates later (row ∷ rows) =
+    (if later then between format else [])
+    ++ (row_in format candidates row ++ rows_in format candidates true rows)
 
 -- ---- for environments
 

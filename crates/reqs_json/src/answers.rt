@@ -1,16 +1,16 @@
-//! The rows of an answer, as a text in a format.
+//! The rows of an answer, as a text in a format: all of them, or one by one for answers that share rows.
 //!
 //! What becomes of a package is a word next to its version, since a version could be told from `none` and
-//! `direct` only by its letters. The object of `matrix` is joined from those of its environments, each made
-//! into text by itself, so that only one environment's values are in memory besides the text.
+//! `direct` only by its letters. The object of `matrix` is joined from those of its rows, each made into text
+//! by itself, so that only one row's values are in memory besides the text.
 
-ghost use Rattle.std.specs.Prelude.{◌≡◌, ◌++◌, All, map, length, IfOk, string_bytes};
+ghost use Rattle.std.specs.Prelude.{◌≡◌, All, map, length, IfOk, string_bytes};
 ghost use Rattle.serde_json.specs.View.{view};
-ghost use Rattle.serde_json.specs.Written.{comma_if};
+ghost use Rattle.reqtable_answer.specs.Answer.{row_text};
 ghost use Rattle.reqtable_answer.specs.Rows.{row_seen, IsTakenBelow};
 ghost use Rattle.reqs_json.specs.Lines.{line_of, value_text};
 ghost use Rattle.reqs_json.specs.Rows.{outcome_word, version_value, package_value, packages_value};
-ghost use Rattle.reqs_json.specs.Rows.{answer_value, environment_value, rows_text};
+ghost use Rattle.reqs_json.specs.Rows.{answer_value, rows_text, row_in};
 
 use crate::format::Format;
 use crate::json_lines::{line_of, names_value, value_text};
@@ -63,73 +63,48 @@ fn answer_value(alloc: Global, rows: &[Row], candidates: &[Candidate]) -> Result
     json!(in alloc; {"packages": packages})
 }
 
-/// The object of an environment's number and answer, after a comma if other objects come before it.
+/// The text of one row in a format: a line, or an object without a line feed.
 ///
-/// `candidates` is the list from which the answer was selected. Linear in the text, with memory for its
-/// values.
+/// `candidates` is the list from which the row was selected. Linear in the text; an object needs memory for
+/// its values in addition to its text.
 ///
 /// # Errors
 ///
 /// `AllocError` when memory runs out.
-pub fn environment_text(
+pub fn row_text(
     alloc: Global,
-    later: bool,
-    number: usize,
-    answer: &Answer,
+    format: Format,
+    row: Row,
     candidates: &Candidates,
 ) -> Result<String, AllocError>
-    requires { All (λ row. IsTakenBelow (length candidates.now) row.outcome) answer.now.rows.items }
-    ensures { IfOk result (λ text. string_bytes text ≡ comma_if later ++ value_text
-        (environment_value candidates.now number (map row_seen answer.now.rows.items))) }
+    requires { IsTakenBelow (length candidates.now) row.outcome }
+    ensures { IfOk result (λ text. string_bytes text ≡ row_in format candidates.now (row_seen row)) }
 {
-    let object = environment_object(alloc, number, &answer.rows, candidates.items())?;
-    behind_comma(alloc, later, object.as_str())
+    match format {
+        Format::Text => row_line(alloc, row, candidates),
+        Format::Json => row_object(alloc, &row, candidates.items()),
+    }
 }
 
-/// A text, after a comma if something comes before it.
-fn behind_comma(alloc: Global, later: bool, shown: &str) -> Result<String, AllocError>
-    ensures { IfOk result (λ text. string_bytes text ≡ comma_if later ++ shown.now) }
+/// The line of a row.
+fn row_line(alloc: Global, row: Row, candidates: &Candidates) -> Result<String, AllocError>
+    requires { IsTakenBelow (length candidates.now) row.outcome }
+    ensures { IfOk result (λ text. string_bytes text ≡ row_text candidates.now (row_seen row)) }
 {
-    let mut text = String::from_str(alloc, comma_if(later))?;
-    text.push_str(shown)?;
-    Ok(text)
+    let mut rows = Vec::with_capacity(alloc, 1)?;
+    rows.push(row)?;
+    let answer = Answer { rows };
+    answer.text(alloc, candidates)
 }
 
-/// The text of the object of a number and rows.
-fn environment_object(
-    alloc: Global,
-    number: usize,
-    rows: &[Row],
-    candidates: &[Candidate],
-) -> Result<String, AllocError>
-    requires { All (λ row. IsTakenBelow (length candidates.now) row.outcome) rows.now }
-    ensures { IfOk result (λ text. string_bytes text
-        ≡ value_text (environment_value candidates.now number (map row_seen rows.now))) }
+/// The text of a row's object.
+fn row_object(alloc: Global, row: &Row, candidates: &[Candidate]) -> Result<String, AllocError>
+    requires { IsTakenBelow (length candidates.now) row.now.outcome }
+    ensures { IfOk result (λ text.
+        string_bytes text ≡ value_text (package_value candidates.now (row_seen row.now))) }
 {
-    let object = environment_value(alloc, number, rows, candidates)?;
+    let object = package_value(alloc, row, candidates)?;
     value_text(alloc, &object)
-}
-
-/// A comma if something comes before, otherwise nothing.
-fn comma_if(later: bool) -> &'static str
-    ensures { result.now ≡ comma_if later }
-{
-    if later { "," } else { "" }
-}
-
-/// The object of a number and rows.
-fn environment_value(
-    alloc: Global,
-    number: usize,
-    rows: &[Row],
-    candidates: &[Candidate],
-) -> Result<Value, AllocError>
-    requires { All (λ row. IsTakenBelow (length candidates.now) row.outcome) rows.now }
-    ensures { IfOk result (λ value.
-        view value ≡ environment_value candidates.now number (map row_seen rows.now)) }
-{
-    let packages = packages_value(alloc, rows, candidates)?;
-    json!(in alloc; {"number": number, "packages": packages})
 }
 
 /// Rows as an array.

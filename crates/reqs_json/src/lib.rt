@@ -12,7 +12,7 @@ mod json_lines;
 pub mod laws;
 mod messages;
 
-pub use answers::{answer_text, environment_text};
+pub use answers::{answer_text, row_text};
 pub use faults::{fault_line, memory_line, usage_line};
 pub use format::Format;
 pub use json_lines::{line_of, lines_value, numbers_value};

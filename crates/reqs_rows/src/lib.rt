@@ -5,5 +5,7 @@ mod known;
 mod row;
 mod row_query;
 mod row_texts;
+mod separating;
 
-pub use row_texts::RowTexts;
+pub use row_query::Query;
+pub use row_texts::{RowTexts, text_for};

@@ -1,10 +1,9 @@
 //! The row of one package.
 
 ghost use Rattle.std.specs.Prelude.{◌≡◌, ◌≢◌, ◌⊎◌, ◌≤◌, ◌<◌, ◌+◌, ◌++◌, ◌∷◌, ℕ, [], length, get_or};
-ghost use Rattle.std.specs.Prelude.{string_bytes, Some, None, IfOk, OnOk};
+ghost use Rattle.std.specs.Prelude.{Some, None, OnOk};
 ghost use Rattle.std.specs.List.{AllZip, AllByRecursion};
 ghost use Rattle.reqtable_answer.specs.Admission.{Admits, AnswersBy};
-ghost use Rattle.reqtable_answer.specs.Answer.{row_text};
 ghost use Rattle.reqtable_answer.specs.Rows.{row_seen, IsTakenBelow};
 ghost use Rattle.reqtable_table.specs.Answers.{most_tests_in, IsPlaceIn, LiesIn, SamePackage};
 ghost use Rattle.reqtable_table.specs.Cases.{HasItsCases};
@@ -12,16 +11,17 @@ ghost use Rattle.reqtable_table.specs.Counts.{all_tests};
 ghost use Rattle.reqtable_table.specs.Kept.{KeptPackage};
 ghost use Rattle.reqtable_table.specs.Runs.{AreRunsOf, AreTold};
 ghost use Rattle.reqtable_table.specs.Standing.{HasItsLines};
-ghost use Rattle.reqs_rows.specs.Asked.{nodes_in, valuation_in, candidates_in};
+ghost use Rattle.reqs_json.specs.Rows.{row_in};
+ghost use Rattle.reqs_rows.specs.Asked.{nodes_in, valuation_in, candidates_in, format_in};
 ghost use Rattle.reqs_rows.specs.Seen.{pieces_of};
 ghost use Rattle.reqs_rows.specs.Texts.{IsKnown, Grow, PutsRow};
 
 use crate::known::{Known, keep, piece_at, reach};
 use crate::row_query::Asked;
 use pep440_version::Version;
+use reqs_json::row_text;
 use reqs_pieces::Pieces;
-use reqtable_answer::{Admission, Answer, Row};
-use reqtable_candidates::Candidates;
+use reqtable_answer::{Admission, Row};
 use reqtable_table::lent::row_among;
 use reqtable_table::{Runs, Table};
 use std::alloc::{AllocError, Global};
@@ -48,16 +48,17 @@ pub(crate) fn put_row<F: Fn(&Version, bool) -> bool>(
     requires candidates { runs.old.candidates ≡ candidates_in asked.now }
     requires lies { (other : KeptPackage) →
         LiesIn (nodes_in asked.now) (valuation_in asked.now) (get_or table.old index other) place }
-    requires known { (other : KeptPackage) → IsKnown (F.post admission.now) (nodes_in asked.now)
-        (candidates_in asked.now) pieces.old.texts (get_or table.old index other)
+    requires known { (other : KeptPackage) → IsKnown (format_in asked.now) (F.post admission.now)
+        (nodes_in asked.now) (candidates_in asked.now) pieces.old.texts (get_or table.old index other)
         (get_or (pieces_of known.old.items) index []) }
     ensures put { OnOk result ((admits : Admits) (other : KeptPackage) →
         AnswersBy (F.post admission.now) admits →
-        PutsRow admits (nodes_in asked.now) (valuation_in asked.now) (candidates_in asked.now)
-        (get_or table.old index other) pieces.old.whole pieces.new.whole) }
+        PutsRow (format_in asked.now) admits (nodes_in asked.now) (valuation_in asked.now)
+        (candidates_in asked.now) (get_or table.old index other) pieces.old.whole pieces.new.whole) }
     ensures grow { OnOk result (Grow pieces.old.texts pieces.new.texts) }
-    ensures known { OnOk result ((other : KeptPackage) → IsKnown (F.post admission.now) (nodes_in asked.now)
-        (candidates_in asked.now) pieces.new.texts (get_or table.old index other)
+    ensures known { OnOk result ((other : KeptPackage) → IsKnown (format_in asked.now)
+        (F.post admission.now) (nodes_in asked.now) (candidates_in asked.now) pieces.new.texts
+        (get_or table.old index other)
         (get_or (pieces_of known.new.items) index [])) }
     ensures others { OnOk result ((at : ℕ) → at ≢ index →
         get_or (pieces_of known.new.items) at [] ≡ get_or (pieces_of known.old.items) at []) }
@@ -101,15 +102,17 @@ fn put_row_in<F: Fn(&Version, bool) -> bool>(
     requires candidates { runs.old.candidates ≡ candidates_in asked.now }
     requires lies { (other : KeptPackage) →
         IsPlaceIn (nodes_in asked.now) (valuation_in asked.now) (get_or table.old index other) place }
-    requires known { (other : KeptPackage) → IsKnown (F.post admission.now) (nodes_in asked.now)
-        (candidates_in asked.now) pieces.old.texts (get_or table.old index other) own.old.items }
+    requires known { (other : KeptPackage) → IsKnown (format_in asked.now) (F.post admission.now)
+        (nodes_in asked.now) (candidates_in asked.now) pieces.old.texts (get_or table.old index other)
+        own.old.items }
     ensures put { OnOk result ((admits : Admits) (other : KeptPackage) →
         AnswersBy (F.post admission.now) admits →
-        PutsRow admits (nodes_in asked.now) (valuation_in asked.now) (candidates_in asked.now)
-        (get_or table.old index other) pieces.old.whole pieces.new.whole) }
+        PutsRow (format_in asked.now) admits (nodes_in asked.now) (valuation_in asked.now)
+        (candidates_in asked.now) (get_or table.old index other) pieces.old.whole pieces.new.whole) }
     ensures grow { OnOk result (Grow pieces.old.texts pieces.new.texts) }
-    ensures known { OnOk result ((other : KeptPackage) → IsKnown (F.post admission.now) (nodes_in asked.now)
-        (candidates_in asked.now) pieces.new.texts (get_or table.old index other) own.new.items) }
+    ensures known { OnOk result ((other : KeptPackage) → IsKnown (format_in asked.now)
+        (F.post admission.now) (nodes_in asked.now) (candidates_in asked.now) pieces.new.texts
+        (get_or table.old index other) own.new.items) }
     ensures kept { AllZip SamePackage table.new table.old }
     ensures candidates { runs.new.candidates ≡ runs.old.candidates }
     ensures runs { AreRunsOf table.new runs.new }
@@ -132,7 +135,7 @@ fn put_row_in<F: Fn(&Version, bool) -> bool>(
         admission,
     )?;
     match row {
-        Some(row) => put_new(alloc, row, place, asked.candidates, own, pieces),
+        Some(row) => put_new(alloc, row, place, asked, own, pieces),
         // A package with an active case has a row, so this isn't reached.
         None => Ok(()),
     }
@@ -143,31 +146,20 @@ fn put_new(
     alloc: Global,
     row: Row,
     place: usize,
-    candidates: &Candidates,
+    asked: &Asked<'_>,
     own: &mut Vec<Option<usize>>,
     pieces: &mut Pieces,
 ) -> Result<(), AllocError>
-    requires { IsTakenBelow (length candidates.now) row.outcome }
-    ensures whole { OnOk result
-        (pieces.new.whole ≡ pieces.old.whole ++ row_text candidates.now (row_seen row)) }
-    ensures texts { OnOk result
-        (pieces.new.texts ≡ pieces.old.texts ++ row_text candidates.now (row_seen row) ∷ []) }
+    requires { IsTakenBelow (length (candidates_in asked.now)) row.outcome }
+    ensures whole { OnOk result (pieces.new.whole
+        ≡ pieces.old.whole ++ row_in (format_in asked.now) (candidates_in asked.now) (row_seen row)) }
+    ensures texts { OnOk result (pieces.new.texts
+        ≡ pieces.old.texts ++ row_in (format_in asked.now) (candidates_in asked.now) (row_seen row) ∷ []) }
     ensures known { OnOk result ((at found : ℕ) → get_or own.new.items at None ≡ Some found →
         ((at ≡ place) × (length pieces.old.texts ≡ found)) ⊎ (get_or own.old.items at None ≡ Some found)) }
 {
-    let text = text_of(alloc, row, candidates)?;
+    let text = row_text(alloc, asked.format, row, asked.candidates)?;
     let piece = pieces.add(text)?;
     keep(own, place, piece)?;
     pieces.append(piece)
-}
-
-/// The text of a row.
-fn text_of(alloc: Global, row: Row, candidates: &Candidates) -> Result<String, AllocError>
-    requires { IsTakenBelow (length candidates.now) row.outcome }
-    ensures { IfOk result (λ text. string_bytes text ≡ row_text candidates.now (row_seen row)) }
-{
-    let mut rows = Vec::with_capacity(alloc, 1)?;
-    rows.push(row)?;
-    let answer = Answer { rows };
-    answer.text(alloc, candidates)
 }

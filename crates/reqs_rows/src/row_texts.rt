@@ -1,13 +1,13 @@
-//! The cached texts of rows, and answers that are composed of them.
+//! The cached texts of rows, and answers that are composed of them, in each format.
 //!
 //! A row's text depends on the package's case alone, so it is made in the first environment of the case,
-//! and each other environment takes four bytes for it: 1,000 environments take little more memory than one.
-//! Room for these is reserved at once, one place for each environment and package, since a list that
-//! doubles is in memory twice for a moment and up to half empty; room that is never written takes none of
-//! the system's memory. Where so much is refused the list grows as it must, so many packages that mostly do
-//! not apply are answered all the same.
+//! and each other environment takes four bytes for it, or eight with a separator: 1,000 environments take
+//! little more memory than one. Room for these is reserved at once, one place for each environment and
+//! package, or two, since a list that doubles is in memory twice for a moment and up to half empty; room that
+//! is never written takes none of the system's memory. Where so much is refused the list grows as it must,
+//! so many packages that mostly do not apply are answered all the same.
 
-ghost use Rattle.std.specs.Prelude.{◌≡◌, ◌≤◌, ◌+◌, List, [], OnOk};
+ghost use Rattle.std.specs.Prelude.{◌≡◌, ◌≤◌, ◌+◌, List, [], IfOk, OnOk};
 ghost use Rattle.std.specs.List.{AllZip, AllByRecursion};
 ghost use Rattle.pep508_evaluation.specs.Valuations.{valuation_of};
 ghost use Rattle.reqtable_answer.specs.Admission.{Admits, AnswersBy};
@@ -19,20 +19,18 @@ ghost use Rattle.reqtable_table.specs.Counts.{all_tests};
 ghost use Rattle.reqtable_table.specs.Kept.{KeepsAll};
 ghost use Rattle.reqtable_table.specs.Runs.{AreRunsOf, AreTold};
 ghost use Rattle.reqtable_table.specs.Standing.{HasItsLines};
-ghost use Rattle.reqs_rows.specs.Asked.{nodes_in, valuation_in, candidates_in};
+ghost use Rattle.reqs_rows.specs.Asked.{nodes_in, valuation_in, candidates_in, format_in};
 ghost use Rattle.reqs_rows.specs.Seen.{pieces_of};
-ghost use Rattle.reqs_rows.specs.Texts.{AreKnown, PutsAnswer, PutsRows};
+ghost use Rattle.reqs_rows.specs.Texts.{AreKnown, HasSeparator, PutsAnswer, PutsRows};
 
 use crate::known::Known;
 use crate::row::put_row;
-use crate::row_query::Asked;
+use crate::row_query::{Asked, Query};
+use crate::separating::separate;
 use pep440_version::Version;
 use pep508_environment::MarkerEnvironment;
-use pep508_name::ExtraName;
-use pep508_tree::Interner;
 use reqs_pieces::Pieces;
 use reqtable_answer::Admission;
-use reqtable_candidates::Candidates;
 use reqtable_table::lent::places;
 use reqtable_table::{Runs, Table};
 use std::alloc::{AllocError, Global};
@@ -63,13 +61,14 @@ impl RowTexts {
         }
     }
 
-    /// Appends the text of the table's answer in an environment with extras to a text of pieces: what
-    /// `Answer::text` returns for the answer of `answer_among`.
+    /// Appends the rows of the table's answer in an environment to a text of pieces, each in the query's
+    /// format, and separated: as lines what `Answer::text` returns for the answer of `answer_among`, and as
+    /// objects the items of `answer_text`'s array.
     ///
     /// Finds the case of each package (`reqtable_table::lent::places`). A row and its text are made in the
     /// first environment with its case; from then on it needs a few steps, and the memory of `Pieces` for one
-    /// occurrence. All environments have to use the pieces, the candidates and the admission with which these
-    /// texts were cached.
+    /// occurrence, or two where rows are separated. The text was begun by `text_for`, and all environments
+    /// have to use the pieces, the query and the admission with which these texts were cached.
     ///
     /// # Errors
     ///
@@ -78,46 +77,63 @@ impl RowTexts {
         &mut self,
         alloc: Global,
         table: &mut Table,
-        interner: &Interner,
+        query: &Query<'_>,
         environment: &MarkerEnvironment,
-        extras: &[ExtraName],
         runs: &mut Runs<'_, '_>,
         admission: &Admission<F>,
-        candidates: &Candidates,
         pieces: &mut Pieces,
     ) -> Result<(), AllocError>
         requires callable { F.IsAlwaysCallable admission.now }
-        requires cases { AllByRecursion (HasItsCases interner.now.nodes) table.old }
+        requires cases { AllByRecursion (HasItsCases query.now.interner.now.nodes) table.old }
         requires runs { AreRunsOf table.old runs.old }
         requires told { AreTold (F.post admission.now) table.old runs.old }
-        requires candidates { runs.old.candidates ≡ candidates.now }
-        requires known { AreKnown (F.post admission.now) interner.now.nodes candidates.now pieces.old.texts
-            table.old self.old }
+        requires candidates { runs.old.candidates ≡ query.now.candidates.now }
+        requires separated { HasSeparator pieces.old.texts }
+        requires known { AreKnown query.now.format (F.post admission.now) query.now.interner.now.nodes
+            query.now.candidates.now pieces.old.texts table.old self.old }
         ensures put { OnOk result ((said : List LineRecord) (admits : Admits) →
-            KeepsAll interner.now.nodes table.old said → AnswersBy (F.post admission.now) admits →
-            PutsAnswer admits (asks_of (valuation_of environment.now extras.now) said) candidates.now
+            KeepsAll query.now.interner.now.nodes table.old said → AnswersBy (F.post admission.now) admits →
+            PutsAnswer query.now.format admits
+            (asks_of (valuation_of environment.now query.now.extras.now) said) query.now.candidates.now
             pieces.old.whole pieces.new.whole) }
-        ensures known { OnOk result (AreKnown (F.post admission.now) interner.now.nodes candidates.now
-            pieces.new.texts table.new self.new) }
+        ensures separated { OnOk result (HasSeparator pieces.new.texts) }
+        ensures known { OnOk result (AreKnown query.now.format (F.post admission.now)
+            query.now.interner.now.nodes query.now.candidates.now pieces.new.texts table.new self.new) }
         ensures kept { AllZip SamePackage table.new table.old }
         ensures candidates { runs.new.candidates ≡ runs.old.candidates }
         ensures runs { AreRunsOf table.new runs.new }
         ensures told { AreTold (F.post admission.now) table.new runs.new }
-        ensures tests { all_tests table.new ≤ all_tests table.old + most_tests_of interner.now.nodes
-            (valuation_of environment.now extras.now) candidates.now table.old }
+        ensures tests { all_tests table.new ≤ all_tests table.old + most_tests_of query.now.interner.now.nodes
+            (valuation_of environment.now query.now.extras.now) query.now.candidates.now table.old }
     {
-        let places = places(alloc, table, interner, environment, extras)?;
+        let places = places(alloc, table, query.interner, environment, query.extras)?;
         let asked = Asked {
-            interner,
+            interner: query.interner,
             environment,
-            extras,
-            candidates,
+            extras: query.extras,
+            candidates: query.candidates,
+            format: query.format,
         };
         let known = &mut self.known;
         put_rows(
             alloc, table, &places, &asked, runs, admission, known, pieces,
         )
     }
+}
+
+/// An empty text for answers: `put_answer` appends to it, with memory reserved as `Pieces::new` does.
+///
+/// # Errors
+///
+/// `AllocError` when memory runs out.
+pub fn text_for(alloc: Global, room: usize) -> Result<Pieces, AllocError>
+    ensures whole { IfOk result (λ text. text.whole ≡ []) }
+    ensures separated { IfOk result (λ text. HasSeparator text.texts) }
+{
+    let mut text = Pieces::new(alloc, room);
+    let separator = String::from_str(alloc, ",")?;
+    let _ = text.add(separator)?;
+    Ok(text)
 }
 
 /// Appends the rows of all packages to the text, in their active cases, which are at these indices.
@@ -138,12 +154,14 @@ fn put_rows<F: Fn(&Version, bool) -> bool>(
     requires runs { AreRunsOf table.old runs.old }
     requires told { AreTold (F.post admission.now) table.old runs.old }
     requires candidates { runs.old.candidates ≡ candidates_in asked.now }
-    requires known { AreKnown (F.post admission.now) (nodes_in asked.now) (candidates_in asked.now)
-        pieces.old.texts table.old (pieces_of known.old.items) }
+    requires separated { HasSeparator pieces.old.texts }
+    requires known { AreKnown (format_in asked.now) (F.post admission.now) (nodes_in asked.now)
+        (candidates_in asked.now) pieces.old.texts table.old (pieces_of known.old.items) }
     ensures put { OnOk result ((admits : Admits) → AnswersBy (F.post admission.now) admits →
-        PutsRows admits (nodes_in asked.now) (valuation_in asked.now) (candidates_in asked.now) table.old
-        pieces.old.whole pieces.new.whole) }
-    ensures known { OnOk result (AreKnown (F.post admission.now) (nodes_in asked.now)
+        PutsRows (format_in asked.now) admits (nodes_in asked.now) (valuation_in asked.now)
+        (candidates_in asked.now) table.old pieces.old.whole pieces.new.whole) }
+    ensures separated { OnOk result (HasSeparator pieces.new.texts) }
+    ensures known { OnOk result (AreKnown (format_in asked.now) (F.post admission.now) (nodes_in asked.now)
         (candidates_in asked.now) pieces.new.texts table.new (pieces_of known.new.items)) }
     ensures kept { AllZip SamePackage table.new table.old }
     ensures candidates { runs.new.candidates ≡ runs.old.candidates }
@@ -152,7 +170,9 @@ fn put_rows<F: Fn(&Version, bool) -> bool>(
     ensures tests { all_tests table.new ≤ all_tests table.old + most_tests_of (nodes_in asked.now)
         (valuation_in asked.now) (candidates_in asked.now) table.old }
 {
+    let mut later = false;
     for (index, place) in places.iter().enumerate() {
+        later = separate(pieces, asked.format, later, *place)?;
         put_row(
             alloc, table, index, *place, asked, runs, admission, known, pieces,
         )?;

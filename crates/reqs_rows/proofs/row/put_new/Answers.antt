@@ -1,13 +1,14 @@
 use Rattle.std.proofs.Common.{◌≡◌, ◌∙◌, ◌∷◌, ◌++◌, [], get_or, inl, inr, ap, sym}
 use Rattle.std.proofs.lemmas.List.{get_or_at}
 use Rattle.std.proofs.lemmas.Result.{on_ok_weaker}
-use Rattle.reqtable_answer.specs.Answer.{row_text}
 use Rattle.reqtable_answer.specs.Rows.{row_seen}
+use Rattle.reqs_json.specs.Rows.{row_in}
+use Rattle.reqs_rows.specs.Asked.{candidates_in, format_in}
 use Rattle.reqs_rows.proofs.row.put_new.Goals as goal
 
 pub returns-clause-whole : goal.returns-clause-whole
 returns-clause-whole c =
-    let text = row_text c.args.candidates.now (row_seen c.args.row) in
+    let text = row_in (format_in c.args.asked.now) (candidates_in c.args.asked.now) (row_seen c.args.row) in
     let before = c.args.pieces.now in
     let added = c.in_ok-piece.ensures in
     let texts : c.add.new.self.texts ≡ before.texts ++ text ∷ [] =

@@ -3,7 +3,7 @@ use Rattle.std.proofs.lemmas.Result.{on_ok_weaker}
 use Rattle.reqtable_table.specs.Answers.{LiesIn}
 use Rattle.reqtable_table.proofs.Same.{all_same}
 use Rattle.reqs_rows.specs.declared.known.Known.{Known}
-use Rattle.reqs_rows.specs.Asked.{nodes_in, valuation_in, candidates_in}
+use Rattle.reqs_rows.specs.Asked.{nodes_in, valuation_in, candidates_in, format_in}
 use Rattle.reqs_rows.specs.Texts.{IsKnown}
 use Rattle.reqs_rows.proofs.Places.{read_at, put_at, put_elsewhere}
 use Rattle.reqs_rows.proofs.row.put_row.Given as given
@@ -35,7 +35,7 @@ put_row_in-requires-clause-known g c = λ other.
     let within : i < length reached = omega (arith, c.in_ok-reach.ensures.within, c.reach.new.known.ok.0) in
     let own = read_at (λ (k : Known). k.pieces.items) reached i c.index_mut.result.now [] within c.index_mut.ensures.value
     ∙ c.in_ok-reach.ensures.same i in
-    subst (IsKnown (given.F-post g c.args.admission.now) (nodes_in c.args.asked.now) (candidates_in c.args.asked.now)
+    subst (IsKnown (format_in c.args.asked.now) (given.F-post g c.args.admission.now) (nodes_in c.args.asked.now) (candidates_in c.args.asked.now)
     c.args.pieces.now.texts (get_or c.args.table.now i other)) (sym own) (c.requires.known other)
 
 pub returns-clause-known : goal.returns-clause-known
@@ -46,7 +46,7 @@ returns-clause-known g c =
     let here = put_at (λ (k : Known). k.pieces.items) c.reach.new.known.items i own [] within in
     on_ok_weaker c.put_row_in.result
     (λ h other.
-    subst (IsKnown (given.F-post g c.args.admission.now) (nodes_in c.args.asked.now) (candidates_in c.args.asked.now)
+    subst (IsKnown (format_in c.args.asked.now) (given.F-post g c.args.admission.now) (nodes_in c.args.asked.now) (candidates_in c.args.asked.now)
     c.put_row_in.new.pieces.texts (get_or c.args.table.now i other)) (sym here) (h other))
     c.put_row_in.ensures.known
 

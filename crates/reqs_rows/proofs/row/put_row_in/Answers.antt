@@ -6,7 +6,7 @@ use Rattle.reqtable_table.specs.Counts.{all_tests}
 use Rattle.reqtable_table.specs.Kept.{KeptPackage}
 use Rattle.reqtable_table.specs.Standing.{HasItsLines}
 use Rattle.reqtable_table.proofs.Same.{all_same}
-use Rattle.reqs_rows.specs.Asked.{nodes_in, valuation_in, candidates_in}
+use Rattle.reqs_rows.specs.Asked.{nodes_in, valuation_in, candidates_in, format_in}
 use Rattle.reqs_rows.specs.Texts.{IsKnown}
 use Rattle.reqs_rows.proofs.Places.{at_each, on_both}
 use Rattle.reqs_rows.proofs.Putting.{put_known, known_more}
@@ -29,7 +29,7 @@ returns-in-Some-clause-put g c =
     let before = c.args.pieces.now in
     on_ok_weaker c.append.result
     (λ h admits other by.
-    put_known (given.F-post g c.args.admission.now) (nodes_in c.args.asked.now) (candidates_in c.args.asked.now)
+    put_known (format_in c.args.asked.now) (given.F-post g c.args.admission.now) (nodes_in c.args.asked.now) (candidates_in c.args.asked.now)
     (get_or c.args.table.now c.args.index other) (valuation_in c.args.asked.now) place (c.requires.lies other)
     before.texts c.in-Some.piece (c.requires.known other place c.in-Some.piece e) before.whole c.append.new.self.whole h admits by)
     c.append.ensures.whole
@@ -39,7 +39,7 @@ returns-in-Some-clause-known g c =
     let returns = given.F-post g c.args.admission.now in
     on_ok_weaker c.append.result
     (λ h other.
-    subst (λ texts. IsKnown returns (nodes_in c.args.asked.now) (candidates_in c.args.asked.now) texts
+    subst (λ texts. IsKnown (format_in c.args.asked.now) returns (nodes_in c.args.asked.now) (candidates_in c.args.asked.now) texts
     (get_or c.args.table.now c.args.index other) c.args.own.now.items) (sym c.append.ensures.kept) (c.requires.known other))
     c.append.ensures.whole
 
@@ -72,7 +72,7 @@ returns-in-Some-row-clause-known g c =
     on_both c.put_new.result
     (λ grown there other.
     let kept = get_or c.args.table.now c.args.index other in
-    known_more returns nodes candidates kept v c.args.place (c.requires.lies other)
+    known_more (format_in c.args.asked.now) returns nodes candidates kept v c.args.place (c.requires.lies other)
     (at_each HasItsLines c.args.table.now c.args.index other c.requires.lines c.requires.within) row
     (λ admits by. (subst (λ r. IsRowIf admits nodes v candidates kept (option_map row_seen r)) c.in-Some-row.is
     (subst (λ cs. IsRowIf admits nodes v cs kept (option_map row_seen c.in_ok-row.row)) c.requires.candidates

@@ -12,15 +12,17 @@ returns-in_err-places-clause-kept g c = all_same c.args.table.now
 
 pub put_rows-requires-clause-known : goal.put_rows-requires-clause-known
 put_rows-requires-clause-known g c =
-    subst (AreKnown (given.F-post g c.args.admission.now) c.args.interner.now.nodes c.args.candidates.now c.args.pieces.now.texts
-    c.args.table.now) (sym c.self.view_is) c.requires.known
+    let query = c.args.query.now in
+    subst (AreKnown query.format (given.F-post g c.args.admission.now) query.interner.now.nodes query.candidates.now
+    c.args.pieces.now.texts c.args.table.now) (sym c.self.view_is) c.requires.known
 
 pub returns-clause-put : goal.returns-clause-put
 returns-clause-put g c =
-    let nodes = c.args.interner.now.nodes in
-    let v = valuation_of c.args.environment.now c.args.extras.now in
+    let query = c.args.query.now in
+    let nodes = query.interner.now.nodes in
+    let v = valuation_of c.args.environment.now query.extras.now in
     on_ok_weaker c.put_rows.result
     (λ h said admits keeps by.
     let put = h admits by in
-    (put.0, rows_are_the_answer nodes v c.args.table.now said keeps admits c.args.candidates.now put.0 put.1, put.2))
+    (put.0, rows_are_the_answer nodes v c.args.table.now said keeps admits query.candidates.now put.0 put.1, put.2))
     c.put_rows.ensures.put

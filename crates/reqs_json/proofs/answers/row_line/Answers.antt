@@ -4,7 +4,7 @@ use Rattle.std.proofs.lemmas.Result.{IfOk-weaker}
 use Rattle.reqtable_answer.specs.Answer.{row_text, answer_text}
 use Rattle.reqtable_answer.specs.Rows.{row_seen, IsTakenBelow}
 use Rattle.reqtable_answer.specs.declared.answer.Row.{Row}
-use Rattle.reqs_rows.proofs.row.text_of.Goals as goal
+use Rattle.reqs_json.proofs.answers.row_line.Goals as goal
 
 pub text-requires : goal.text-requires
 text-requires c =
