@@ -9,6 +9,7 @@ use Rattle.std.specs.Ordering.{nat_cmp}
 use Rattle.std.specs.Cmp.Lexicographic.{slice_cmp}
 use Rattle.std.specs.Str.{bytes_eq}
 use Rattle.std.specs.declared.cmp.Ordering.{Ordering}
+use Rattle.pep440_version.specs.Record.{VersionRecord}
 use Rattle.pep440_version.specs.Order.{version_cmp}
 use Rattle.pep508_requirement_text.specs.FrontReading.{Front}
 use Rattle.reqtable_candidates.specs.declared.candidates.Candidate.{Candidate}
@@ -67,6 +68,9 @@ pub record AreNew (all : List Front) (packages : List Package) : Type 0 where
   pub each : AllByRecursion (IsNew all) packages
 
 -- ---- a candidate is offered
+
+abbrev pub candidate_with : List ℕ → VersionRecord → Candidate
+candidate_with name version = record { name = name; version = version }
 
 -- a package is the same but for how its requirements are tested
 pub record IsAsBefore (old new : Package) : Type 0 where

@@ -12,7 +12,9 @@
 
 mod fronts;
 pub mod laws;
+mod naming;
 mod offering;
+mod plain_lines;
 mod reading;
 mod required;
 mod selecting;

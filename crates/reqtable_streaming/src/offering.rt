@@ -9,7 +9,7 @@ ghost use Rattle.std.specs.List.{AllZip};
 ghost use Rattle.reqtable_answer.specs.Admission.{Admits, AnswersBy};
 ghost use Rattle.reqtable_answer.specs.Groups.{exceeds};
 ghost use Rattle.reqtable_streaming.specs.Packages.{AreRising, AreNamesOf, AreSound, IsSound, names_of};
-ghost use Rattle.reqtable_streaming.specs.Packages.{by_version, IsAsBefore, IsOffered, IsNext};
+ghost use Rattle.reqtable_streaming.specs.Packages.{by_version, candidate_with, IsAsBefore, IsOffered, IsNext};
 
 use crate::fronts::Fronted;
 use crate::required::{Package, place_of};
@@ -18,14 +18,15 @@ use reqtable_answer::{Admission, all_take, range_of};
 use reqtable_candidates::Candidate;
 use std::alloc::{AllocError, Global};
 
-/// Offers a candidate to its package, if that is required. `names` are those of the packages. `before` is the
-/// place of the package of the candidate before; returns that of this candidate.
+/// Offers the candidate of a name and a version to its package, if that is required. `names` are those of the
+/// packages. `before` is the place of the package of the candidate before; returns that of this candidate.
 pub(crate) fn offer_to<F: Fn(&Version, bool) -> bool>(
     alloc: Global,
     packages: &mut Vec<Package<'_>>,
     names: &[Fronted<'_>],
     before: usize,
-    candidate: Candidate,
+    name: &Fronted<'_>,
+    version: Version,
     admission: &Admission<F>,
 ) -> Result<usize, AllocError>
     requires callable { F.IsAlwaysCallable admission.now }
@@ -35,21 +36,22 @@ pub(crate) fn offer_to<F: Fn(&Version, bool) -> bool>(
     ensures names { OnOk result (names_of packages.new.items ≡ names_of packages.old.items) }
     ensures sound { OnOk result (AreSound packages.new.items) }
     ensures offered { OnOk result ((admits : Admits) → AnswersBy (F.post admission.now) admits →
-        AllZip (IsNext admits candidate) packages.old.items packages.new.items) }
+        AllZip (IsNext admits (candidate_with name.now.name.now version)) packages.old.items
+        packages.new.items) }
 {
-    let Some(place) = place_of(packages, names, before, &candidate.name) else {
+    let Some(place) = place_of(packages, names, before, name) else {
         return Ok(before);
     };
-    offer(alloc, &mut packages[place], candidate, admission)?;
+    offer(alloc, &mut packages[place], version, admission)?;
     Ok(place)
 }
 
-/// Makes the candidate the package's best one, if it is admitted, higher than the best one before it, and
-/// accepted.
+/// Makes the version that of the package's best candidate, if it is admitted, higher than the best one before
+/// it, and accepted. Only then the candidate gets a name in memory of its own.
 fn offer<F: Fn(&Version, bool) -> bool>(
     alloc: Global,
     wanted: &mut Package<'_>,
-    candidate: Candidate,
+    version: Version,
     admission: &Admission<F>,
 ) -> Result<(), AllocError>
     requires callable { F.IsAlwaysCallable admission.now }
@@ -57,28 +59,29 @@ fn offer<F: Fn(&Version, bool) -> bool>(
     ensures name { OnOk result (wanted.new.name ≡ wanted.old.name) }
     ensures sound { OnOk result (IsSound wanted.new) }
     ensures offered { OnOk result ((admits : Admits) → AnswersBy (F.post admission.now) admits →
-        IsOffered admits candidate wanted.old wanted.new) }
+        IsOffered admits (candidate_with wanted.old.name.now version) wanted.old wanted.new) }
 {
-    if wanted.direct || !is_greater(&candidate, &wanted.best) {
+    if wanted.direct || !is_greater(wanted, &version) {
         return Ok(());
     }
-    if !admission.admits(&candidate.version, wanted.prerelease) {
+    if !admission.admits(&version, wanted.prerelease) {
         return Ok(());
     }
     prepare(alloc, wanted)?;
-    if all_take(alloc, &wanted.asks, &wanted.range, &candidate.version)? {
-        wanted.best = Some(candidate);
+    if all_take(alloc, &wanted.asks, &wanted.range, &version)? {
+        let name = wanted.name.try_clone(alloc)?;
+        wanted.best = Some(Candidate { name, version });
     }
     Ok(())
 }
 
-/// Whether the candidate is higher than the best one before it.
-fn is_greater(candidate: &Candidate, best: &Option<Candidate>) -> bool
-    ensures { result ≡ exceeds by_version candidate.now best.now }
+/// Whether the version is higher than that of the package's best candidate so far.
+fn is_greater(wanted: &Package<'_>, version: &Version) -> bool
+    ensures { result ≡ exceeds by_version (candidate_with wanted.now.name.now version.now) wanted.now.best }
 {
-    match best {
+    match &wanted.best {
         None => true,
-        Some(best) => candidate.version > best.version,
+        Some(best) => *version > best.version,
     }
 }
 
