@@ -1,11 +1,10 @@
 -- Lines in the common form: what their parts are.
 use Rattle.std.proofs.Common.{◌≡◌, ◌∙◌, ℕ, ◌+◌, ◌<◌, ◌==◌, ◌&&◌, ◌||◌, not, nat_lt, Bool, true, false, List, [], ◌∷◌, ◌++◌, length, refl, ap, sym, subst, arith}
-use Rattle.std.proofs.Common.{Some, cond, get_or, drop, length-append}
+use Rattle.std.proofs.Common.{Some, cond, get_or, take, drop}
 use Rattle.std.proofs.lemmas.Bool.Decides.{nat_tests}
-use Rattle.std.proofs.lemmas.Grind.{common_steps}
-use Rattle.std.proofs.Math.Seq.{get_or-append_seam}
+use Rattle.std.proofs.lemmas.List.{take-append-drop}
 use Rattle.std.proofs.lemmas.Str.{chars-encodes, chars-append, chars-IsAscii, chars_past_char, scalars-chars, encodes-chars}
-use Rattle.std.proofs.lemmas.Str.{encode_ascii, encodes-IsAscii, IsUtf8-append, IsUtf8-from_ascii, IsUtf8-drop, IsCharBoundary-after_ascii}
+use Rattle.std.proofs.lemmas.Str.{encode_ascii, encodes-IsAscii, IsUtf8-append, IsUtf8-from_ascii}
 use Rattle.std.proofs.lemmas.Str.Ascii.{IsAscii-nil, IsAscii-cons}
 use Rattle.std.specs.Prelude.{IsAscii}
 use Rattle.std.specs.Char.{is_whitespace}
@@ -21,6 +20,7 @@ use Rattle.reqtable_candidates.proofs.Comments.{no_comment}
 use Rattle.reqtable_candidates.proofs.White.{led, trailed, skip_black, dropped_again, still_black}
 use Rattle.reqtable_candidates.proofs.Words.{both_true}
 use Rattle.reqtable_streaming.specs.PlainLines.{is_plain_byte, ArePlainParts}
+use Rattle.reqtable_streaming.proofs.NormalForms.{from_place}
 
 -- ---- single bytes
 
@@ -135,14 +135,11 @@ bare_trimmed bs h =
 
 -- ---- the line
 
--- what follows a space is text
-pub rest_utf8 : (line name rest : List ℕ) → IsUtf8 line → line ≡ name ++ 32 ∷ rest → IsUtf8 rest
-rest_utf8 line name rest u e =
-    let at : get_or line (length name) 0 ≡ 32 = ap (λ l. get_or l (length name) 0) e ∙ get_or-append_seam name 32 rest 0 in
-    let long : length line ≡ length name + length (32 ∷ rest) = ap length e ∙ length-append name (32 ∷ rest) in
-    let within : length name < length line = omega (arith, long) in
-    let left : drop (length name + 1) line ≡ rest = ap (drop (length name + 1)) e ∙ grind (arith, common_steps) in
-    subst IsUtf8 left (IsUtf8-drop line (length name + 1) u (IsCharBoundary-after_ascii line (length name) u within (omega (arith, at))))
+pub split_at_space : (line rest : List ℕ) (at : ℕ) → at < length line → get_or line at 0 ≡ 32
+    → rest ≡ drop (at + 1) line → line ≡ take at line ++ 32 ∷ rest
+split_at_space line rest at within space e =
+    sym (take-append-drop at line)
+    ∙ ap (λ bs. take at line ++ bs) (from_place line at within ∙ ap (λ b. b ∷ drop (at + 1) line) space ∙ ap (λ bs. 32 ∷ bs) (sym e))
 
 some_name : (name : List ℕ) → is_alphanumeric_at name 0 ≡ true → 0 < length name
 some_name [] h = absurd (cc)

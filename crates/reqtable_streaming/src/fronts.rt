@@ -4,7 +4,7 @@
 //! list of names with their fronts is dense: a step of a search reads one entry of it, and names only where
 //! fronts are equal and full: a name of seven bytes or fewer is its front, since no name has a byte 0. A
 //! front is a field with the fact that it is the name's, so that the contract of the comparison is that of
-//! names. The name is a text, so that a candidate's needs no memory of its own.
+//! names. The name is borrowed, so that a candidate's needs no memory of its own.
 
 ghost use Rattle.std.specs.Prelude.{◌≡◌, ◌<◌, ◌+◌, ◌*◌, ◌^◌, true, Some};
 ghost use Rattle.pep508_name.specs.Name.{name_cmp, name_of};
@@ -17,7 +17,7 @@ use std::cmp::Ordering;
 #[derive(Clone, Copy)]
 pub(crate) struct Fronted<'a> {
     pub(crate) front: u64,
-    pub(crate) name: &'a str,
+    pub(crate) name: &'a [u8],
     pub(crate) ghost is_front: { front ≡ front_of name.now },
     pub(crate) ghost has_bytes: { are_bytes name.now ≡ true },
 }
@@ -26,12 +26,12 @@ pub(crate) struct Fronted<'a> {
 pub(crate) fn of_name(name: &PackageName) -> Fronted<'_>
     ensures { result.name.now ≡ name.now }
 {
-    with_front(name.as_str())
+    with_front(name.as_str().as_bytes())
 }
 
-/// The text, which is a name in normal form, with its front.
+/// The bytes, which are a name in normal form, with its front.
 #[tactic(auto, using(reqtable_candidates::proofs::Fronts::name_of_bytes))]
-pub(crate) fn with_front(name: &str) -> Fronted<'_>
+pub(crate) fn with_front(name: &[u8]) -> Fronted<'_>
     requires { name_of name.now ≡ Some name.now }
     ensures { result.name.now ≡ name.now }
 {
@@ -55,12 +55,12 @@ pub(crate) fn compare(a: &Fronted<'_>, b: &Fronted<'_>) -> Ordering
     a.name.cmp(b.name)
 }
 
-/// The first eight bytes of a text as one big-endian number; missing bytes are 0.
+/// The first of some bytes, eight at most, as one big-endian number; missing bytes are 0.
 #[tactic(auto, unfolding(reqtable_candidates::specs::Fronts::front_of))]
-fn front_of(text: &str) -> u64
-    ensures { result ≡ front_of text.now }
+fn front_of(bytes: &[u8]) -> u64
+    ensures { result ≡ front_of bytes.now }
 {
-    let (front, rest) = shifted(0, text.as_bytes());
+    let (front, rest) = shifted(0, bytes);
     let (front, rest) = shifted(front, rest);
     let (front, rest) = shifted(front, rest);
     let (front, rest) = shifted(front, rest);

@@ -1,80 +1,34 @@
-//! Normal forms of names, in memory that is used again.
+//! Names of lines, whose normal forms are written into memory that is used again.
 
-ghost use Rattle.std.specs.Prelude.{◌≡◌, ◌||◌, ◌++◌, ◌∷◌, [], IsTrue, IfSome, Some, if◌then◌else◌};
-ghost use Rattle.std.specs.Char.{is_ascii_digit, is_ascii_lowercase, to_ascii_lowercase};
+ghost use Rattle.std.specs.Prelude.{◌≡◌, ◌<◌, ◌++◌, ◌∷◌, [], IsTrue, IfSome, Some, if◌then◌else◌, length, take, slice_index};
+ghost use Rattle.std.specs.Char.{to_ascii_lowercase};
 ghost use Rattle.pep508_name.specs.Name.{name_of, is_alphanumeric_at, is_separator};
+ghost use Rattle.reqtable_streaming.specs.PlainLines.{AddsByte};
 
-use std::str;
-
-/// Returns the normal form of a name, which is the text itself or is written in place of what `normal` has;
-/// `None` if the text is not a name, or memory ran out.
-pub(crate) fn normal_form<'a>(name: &'a str, normal: &'a mut Vec<u8>) -> Option<&'a str>
-    ensures { IfSome result (λ form. name_of name.now ≡ Some form.now) }
+/// Writes the normal form of the name before the first space of a line in place of what `normal` has, and
+/// returns the place of that space; `None` if there is no such name, or memory ran out.
+pub(crate) fn read_name(line: &[u8], normal: &mut Vec<u8>) -> Option<usize>
+    ensures within { IfSome result (λ at. at < length line.now) }
+    ensures space { IfSome result (λ at. slice_index line.now at ≡ 32) }
+    ensures name { IfSome result (λ at. name_of (take at line.now) ≡ Some normal.new.items) }
 {
-    if is_normal(name) {
-        return Some(name);
-    }
-    if !write_normal(name, normal) {
+    if !begins_name(line) {
         return None;
-    }
-    str::from_utf8(normal).ok()
-}
-
-/// Returns whether a text is a name and plainly its own normal form: lower-case letters and digits, with a
-/// single `-` between some.
-fn is_normal(text: &str) -> bool
-    ensures { IsTrue result → name_of text.now ≡ Some text.now }
-{
-    // A `-` is allowed neither at the front nor after another one.
-    let mut may_end = false;
-    for byte in text.as_bytes() {
-        if *byte == b'-' {
-            if !may_end {
-                return false;
-            }
-            may_end = false;
-        } else {
-            if !is_small(*byte) {
-                return false;
-            }
-            may_end = true;
-        }
-    }
-    may_end
-}
-
-/// Returns whether a byte is a lower-case letter or a digit.
-fn is_small(byte: u8) -> bool
-    ensures { result ≡ (is_ascii_lowercase byte || is_ascii_digit byte) }
-{
-    byte.is_ascii_lowercase() || byte.is_ascii_digit()
-}
-
-/// Writes the normal form of a name. Returns whether it was written: `false` if the text is not a name, or
-/// memory ran out.
-fn write_normal(text: &str, normal: &mut Vec<u8>) -> bool
-    ensures { IsTrue result → name_of text.now ≡ Some normal.new.items }
-{
-    let bytes = text.as_bytes();
-    if !begins_name(bytes) {
-        return false;
     }
     normal.clear();
     let mut separated = false;
-    for byte in bytes {
-        if byte.is_ascii_alphanumeric() {
-            if !push_letter(normal, separated, *byte) {
-                return false;
-            }
-            separated = false;
-        } else {
-            if !is_separator(*byte) {
-                return false;
-            }
-            separated = true;
-        }
+    let mut at = 0;
+    while at < line.len() && line[at] != b' ' {
+        separated = push_byte(normal, separated, line[at])?;
+        at += 1;
     }
-    !separated
+    if separated {
+        return None;
+    }
+    if at == line.len() {
+        return None;
+    }
+    Some(at)
 }
 
 /// Returns whether the first byte is an ASCII letter or digit.
@@ -85,6 +39,23 @@ fn begins_name(bytes: &[u8]) -> bool
         Some(byte) => byte.is_ascii_alphanumeric(),
         None => false,
     }
+}
+
+/// Appends what a byte of a name adds to its normal form, and returns whether the byte is a separator; `None`
+/// if it is in no name, or memory ran out. `separated` says whether the byte before is a separator.
+fn push_byte(normal: &mut Vec<u8>, separated: bool, byte: u8) -> Option<bool>
+    ensures { IfSome result (λ separates. AddsByte separated separates byte normal.old.items normal.new.items) }
+{
+    if byte.is_ascii_alphanumeric() {
+        if !push_letter(normal, separated, byte) {
+            return None;
+        }
+        return Some(false);
+    }
+    if !is_separator(byte) {
+        return None;
+    }
+    Some(true)
 }
 
 /// Returns whether a byte is `-`, `_` or `.`.

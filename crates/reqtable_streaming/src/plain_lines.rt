@@ -1,11 +1,13 @@
 //! Lines of candidates in the common form, read in few passes and without memory.
 
-ghost use Rattle.std.specs.Prelude.{◌≡◌, ◌<◌, IsTrue, IfSome, length};
+ghost use Rattle.std.specs.Prelude.{◌≡◌, ◌<◌, IsTrue, IfSome, length, List, ℕ, Some};
 ghost use Rattle.std.specs.List.{list_all};
 ghost use Rattle.std.specs.Str.{trim};
 ghost use Rattle.std.specs.Str.Lines.{strip_carriage_return};
-ghost use Rattle.pep508_name.specs.Name.{is_name};
+ghost use Rattle.pep508_name.specs.Name.{name_of};
 ghost use Rattle.reqtable_streaming.specs.PlainLines.{ArePlainParts, is_plain_byte};
+
+use crate::naming::read_name;
 
 /// Returns a line without a carriage return at its end.
 pub(crate) fn without_return(line: &str) -> &str
@@ -14,15 +16,16 @@ pub(crate) fn without_return(line: &str) -> &str
     line.strip_suffix('\r').unwrap_or(line)
 }
 
-/// Returns the texts of the name and the version of a line without its end, if a space is between them and
-/// the version's is of printed ASCII characters without `#`.
-pub(crate) fn plain_parts(line: &str) -> Option<(&str, &str)>
-    ensures { IfSome result (λ parts. IsTrue (is_name parts.0.now) →
-        ArePlainParts line.now parts.0.now parts.1.now) }
+/// Writes the normal form of a line's name in place of what `normal` has, and returns the text of its version,
+/// if a space is between them and the version's is of printed ASCII characters without `#`. The line has no
+/// end. `None` also if memory ran out.
+pub(crate) fn plain_parts<'a>(line: &'a str, normal: &mut Vec<u8>) -> Option<&'a str>
+    ensures { IfSome result (λ version. (name : List ℕ) × ArePlainParts line.now name version.now
+        × (name_of name ≡ Some normal.new.items)) }
 {
-    let (name, rest) = line.split_once(' ')?;
-    let version = plain_word(rest)?;
-    Some((name, version))
+    let at = read_name(line.as_bytes(), normal)?;
+    let version = plain_word(&line[at + 1..])?;
+    Some(version)
 }
 
 /// Returns a text without the white space around it, if that is of printed ASCII characters without `#`.

@@ -1,8 +1,8 @@
 //! The lines of candidates, read one after another.
 //!
-//! Most lines are a name, a space and a version in ASCII, without a comment. The name of such a line is found
-//! among those of the packages as it stands, or by its normal form in memory that all lines share, so that
-//! only a candidate which becomes the best one of its package gets a name of its own.
+//! Most lines are a name, a space and a version in ASCII, without a comment. The normal form of such a name is
+//! written into memory that all lines share, and found there among the names of the packages, so that only a
+//! candidate which becomes the best one of its package gets a name of its own.
 
 ghost use Rattle.std.specs.Prelude.{◌≡◌, true, false, Err, IsTrue, IsOkAnd, List, OnOk, Some};
 ghost use Rattle.std.specs.List.{AllByRecursion, AllZip};
@@ -19,7 +19,6 @@ ghost use Rattle.reqtable_streaming.specs.Packages.{HasBest, names_of};
 ghost use Rattle.reqtable_streaming.specs.Selection.{JudgesRead};
 
 use crate::fronts::{Fronted, of_name, with_front};
-use crate::naming::normal_form;
 use crate::offering::offer_to;
 use crate::plain_lines::{plain_parts, without_return};
 use crate::required::Package;
@@ -86,11 +85,9 @@ fn read_line<F: Fn(&Version, bool) -> bool>(
         result (candidate_at number (text_of line.now)) }
     ensures grown { result ≡ Err CandidatesError.Memory → IsTrue (has_name (trim (text_of line.now))) }
 {
-    if let Some((name, version)) = plain_parts(without_return(line)) {
-        if let Some(form) = normal_form(name, normal) {
-            let name = with_front(form);
-            return read_plain(alloc, number, &name, version, packages, names, before, admission);
-        }
+    if let Some(version) = plain_parts(without_return(line), normal) {
+        let name = with_front(normal);
+        return read_plain(alloc, number, &name, version, packages, names, before, admission);
     }
     let text = line_text(line);
     if is_blank(text) {

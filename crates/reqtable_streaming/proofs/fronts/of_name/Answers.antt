@@ -4,4 +4,5 @@ use Rattle.reqtable_streaming.proofs.fronts.of_name.Goals as goal
 
 pub with_front-requires : goal.with_front-requires
 with_front-requires c =
-    ap name_of c.as_str.ensures.text ∙ c.as_str.ensures.normal ∙ ap (λ n. Some n) (sym c.as_str.ensures.text)
+    let text = c.as_bytes.ensures.value ∙ c.as_str.ensures.text in
+    ap name_of text ∙ c.as_str.ensures.normal ∙ ap (λ n. Some n) (sym text)
