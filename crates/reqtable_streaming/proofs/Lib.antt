@@ -9,3 +9,5 @@ pub mod OneRoad
 pub mod NormalForms
 pub mod PlainLines
 pub mod LineByLine
+pub mod PlainWords
+pub mod PassedOver

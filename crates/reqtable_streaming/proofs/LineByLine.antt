@@ -5,7 +5,9 @@ use Rattle.std.specs.List.{AllByRecursion, AllZip}
 use Rattle.std.specs.Option.{option_map_or}
 use Rattle.std.specs.Str.{trim}
 use Rattle.read_outcome.specs.Outcome.{Tells}
+use Rattle.pep440_version.specs.Packing.{packed}
 use Rattle.pep440_version.specs.Reading.{version_of}
+use Rattle.pep440_version.specs.Record.{VersionRecord}
 use Rattle.pep508_name.specs.Name.{is_name, name_of}
 use Rattle.pep508_requirement_text.specs.FrontReading.{Front}
 use Rattle.reqtable_candidates.specs.TextLines.{without_comment, is_blank, each_line}
@@ -17,7 +19,7 @@ use Rattle.reqtable_candidates.proofs.Lines.{lines_of, numbered, seen, lines_mor
 use Rattle.reqtable_answer.specs.Admission.{Admits}
 use Rattle.reqtable_streaming.specs.declared.required.Package.{Package}
 use Rattle.reqtable_streaming.specs.LinesRead.{text_of, OffersRead}
-use Rattle.reqtable_streaming.specs.Packages.{AreSound, IsNew, IsNext}
+use Rattle.reqtable_streaming.specs.Packages.{AreSound, IsNew, IsNext, candidate_with}
 use Rattle.reqtable_streaming.specs.PlainLines.{ArePlainParts}
 use Rattle.reqtable_streaming.proofs.Best.{KeepsBest, each_next}
 use Rattle.reqtable_streaming.proofs.NormalForms.{is_named}
@@ -47,6 +49,20 @@ module _ (line name version form : List ℕ) (are : ArePlainParts line name vers
   pub plain_named : IsTrue (has_name (trim (without_comment line)))
   plain_named =
       ap (λ parts. option_map_or (λ (p : List ℕ × List ℕ). is_name p.0) parts false) are.parts ∙ is_named name form is
+
+-- ---- a version with a word
+
+pub over_read : (word : ℕ) (text name : List ℕ) (number : ℕ) (packages : List Package)
+    → (version : VersionRecord) × (version_of text ≡ Some version) × (packed version ≡ Some word)
+    → ((admits : Admits) (version : VersionRecord) → packed version ≡ Some word
+    → AllZip (IsNext admits (candidate_with name version)) packages packages)
+    → (candidate : Candidate) × (at_line number (candidate_by (Some name) (version_of text)) ≡ Ok candidate)
+    × ((admits : Admits) → AllZip (IsNext admits candidate) packages packages)
+over_read word text name number packages read over = (
+  candidate_with name read.0,
+  ap (λ version. at_line number (candidate_by (Some name) version)) read.1,
+  λ admits. over admits read.0 read.2,
+)
 
 -- ---- all lines so far
 

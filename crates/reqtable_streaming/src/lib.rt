@@ -20,6 +20,7 @@ mod required;
 mod selecting;
 mod selection;
 mod streaming;
+mod words;
 
 pub use selection::Selection;
 pub use streaming::judge_text;

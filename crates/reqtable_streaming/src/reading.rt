@@ -4,10 +4,12 @@
 //! written into memory that all lines share, and found there among the names of the packages, so that only a
 //! candidate which becomes the best one of its package gets a name of its own.
 
-ghost use Rattle.std.specs.Prelude.{◌≡◌, true, false, Err, IsTrue, IsOkAnd, List, OnOk, Some};
+ghost use Rattle.std.specs.Prelude.{◌≡◌, true, false, Err, IsTrue, IsOkAnd, IfSome, List, OnOk, Some};
 ghost use Rattle.std.specs.List.{AllByRecursion, AllZip};
 ghost use Rattle.std.specs.Str.{trim};
+ghost use Rattle.pep440_version.specs.Packing.{packed};
 ghost use Rattle.pep440_version.specs.Reading.{version_of};
+ghost use Rattle.pep440_version.specs.Record.{VersionRecord};
 ghost use Rattle.pep508_requirement_text.specs.FrontReading.{Front};
 ghost use Rattle.reqtable_candidates.specs.TextLines.{text_lines, each_line, is_blank};
 ghost use Rattle.reqtable_candidates.specs.CandidateLine.{candidate_by, has_name};
@@ -19,9 +21,10 @@ ghost use Rattle.reqtable_streaming.specs.Packages.{HasBest, names_of};
 ghost use Rattle.reqtable_streaming.specs.Selection.{JudgesRead};
 
 use crate::fronts::{Fronted, of_name, with_front};
-use crate::offering::offer_to;
+use crate::offering::{offer_to, passes_over};
 use crate::plain_lines::{plain_parts, without_return};
 use crate::required::Package;
+use crate::words::read_word;
 use pep440_version::Version;
 use reqtable_answer::Admission;
 use reqtable_candidates::pieces::read_version;
@@ -96,7 +99,8 @@ fn read_line<F: Fn(&Version, bool) -> bool>(
     read_other(alloc, number, text, packages, names, before, admission)
 }
 
-/// Reads the version of a line whose name was read, and offers the candidate to its package.
+/// Reads the version of a line whose name was read, and offers the candidate to its package. A version with a
+/// word that is no higher than the best one's is not read any further.
 fn read_plain<F: Fn(&Version, bool) -> bool>(
     alloc: Global,
     number: usize,
@@ -118,11 +122,48 @@ fn read_plain<F: Fn(&Version, bool) -> bool>(
         AllZip (IsNext admits candidate) packages.old.items packages.new.items)
         result (at_line number (candidate_by (Some name.now.name.now) (version_of version.now))) }
 {
+    let Some(word) = read_word(version.as_bytes()) else {
+        return read_worded(alloc, number, name, version, None, packages, names, before, admission);
+    };
+    let (place, is_over) = passes_over(packages, names, before, name, word);
+    if is_over {
+        return Ok(place);
+    }
+    let word = Some(word);
+    read_worded(alloc, number, name, version, word, packages, names, place, admission)
+}
+
+/// Reads the version of a line whose name was read, and offers the candidate to its package. `word` is that of
+/// the version, if it is known.
+fn read_worded<F: Fn(&Version, bool) -> bool>(
+    alloc: Global,
+    number: usize,
+    name: &Fronted<'_>,
+    version: &str,
+    word: Option<u64>,
+    packages: &mut Vec<Package<'_>>,
+    names: &[Fronted<'_>],
+    before: usize,
+    admission: &Admission<F>,
+) -> Result<usize, CandidatesError>
+    requires callable { F.IsAlwaysCallable admission.now }
+    requires packed { IfSome word (λ n. (read : VersionRecord) × (version_of version.now ≡ Some read)
+        × (packed read ≡ Some n)) }
+    requires rising { AreRising packages.old.items }
+    requires named { AreNamesOf packages.old.items names.now }
+    requires sound { AreSound packages.old.items }
+    ensures names { OnOk result (names_of packages.new.items ≡ names_of packages.old.items) }
+    ensures sound { OnOk result (AreSound packages.new.items) }
+    ensures answered { OffersRead (λ candidate. (admits : Admits) →
+        AnswersBy (F.post admission.now) admits →
+        AllZip (IsNext admits candidate) packages.old.items packages.new.items)
+        result (at_line number (candidate_by (Some name.now.name.now) (version_of version.now))) }
+{
     let Some(version) = read_version(alloc, version)? else {
         let cause = CandidateFault::Version;
         return Err(CandidatesError::Line { number, cause });
     };
-    let place = offer_to(alloc, packages, names, before, name, version, admission)?;
+    let place = offer_to(alloc, packages, names, before, name, version, word, admission)?;
     Ok(place)
 }
 
@@ -151,6 +192,6 @@ fn read_other<F: Fn(&Version, bool) -> bool>(
 {
     let Candidate { name, version } = read_candidate(alloc, number, text)?;
     let front = of_name(&name);
-    let place = offer_to(alloc, packages, names, before, &front, version, admission)?;
+    let place = offer_to(alloc, packages, names, before, &front, version, None, admission)?;
     Ok(place)
 }

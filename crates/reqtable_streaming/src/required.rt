@@ -34,6 +34,8 @@ pub(crate) struct Package<'a> {
     pub(crate) range: Option<OneRange<'a>>,
     /// The first among the highest candidates so far that are admitted and accepted.
     pub(crate) best: Option<Candidate>,
+    /// The word of its version, where that was read.
+    pub(crate) word: Option<u64>,
 }
 
 /// The packages of groups of requirements, sorted by their names.
@@ -71,6 +73,7 @@ fn package_of<'a>(alloc: Global, asks: &[Ask<'a>]) -> Result<Package<'a>, AllocE
         tested: 0,
         range: None,
         best: None,
+        word: None,
     })
 }
 

@@ -14,8 +14,8 @@ returns-then-not-admits-clause-offered g c = λ admits by.
     sym (c.admits.ensures admits by) ∙ c.if-not-admits.true in
     kept_by admits (candidate_with wanted.name.now c.args.version) wanted refused
 
-pub returns-then-branch-clause-offered : goal.returns-then-branch-clause-offered
-returns-then-branch-clause-offered g c = λ admits by.
+pub returns-in_ok-name-clause-offered : goal.returns-in_ok-name-clause-offered
+returns-in_ok-name-clause-offered g c = λ admits by.
     let old = c.args.wanted.now in
     let new = c.prepare.new.wanted in
     let version = c.args.version in
@@ -27,4 +27,5 @@ returns-then-branch-clause-offered g c = λ admits by.
     admitted in
     let copied : c.in_ok-name.name ≡ old.name.now = c.in_ok-name.ensures ∙ ap (λ n. n.now) same.name in
     let P : List ℕ → Type 0 = λ n. IsOffered admits candidate old (record new { best = Some (candidate_with n version) }) in
-    subst P (sym copied) taken
+    let told = subst P (sym copied) taken in
+    record { name = told.name; asks = told.asks; direct = told.direct; best = told.best }

@@ -78,7 +78,7 @@ pub loop-index-preserved : goal.loop-index-preserved
 loop-index-preserved g c =
     let part : ℕ × Bor (List ℕ) = (c.in-Some.index, c.in-Some.line) in
     let old = c.loop-index.packages.items in
-    let new = c.read_line-place.new.packages.items in
+    let new = c.read_line.new.packages.items in
     let Lawful : Admits → Type 0 = λ admits. AnswersBy (goal.F-post g c.args.admission.now) admits in
     record {
       can_next = search rules;

@@ -10,8 +10,8 @@ use Rattle.reqtable_streaming.specs.LinesRead.{text_of}
 use Rattle.reqtable_streaming.proofs.LineByLine.{offers_same, plain_reading, plain_named}
 use Rattle.reqtable_streaming.proofs.reading.read_line.Goals as goal
 
-pub with_front-requires : goal.with_front-requires
-with_front-requires g c =
+pub with_front-name-requires : goal.with_front-name-requires
+with_front-name-requires g c =
     let found = c.in-Some.ensures in
     let form = c.plain_parts.new.normal.items in
     let value = c.deref.ensures.value in
