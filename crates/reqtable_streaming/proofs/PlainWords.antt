@@ -3,8 +3,8 @@ use Rattle.std.proofs.Common.{◌≡◌, ◌∙◌, ℕ, ◌+◌, ◌*◌, ◌^�
 use Rattle.std.proofs.Common.{Some, None, Ok, refl, ap, arith}
 use Rattle.std.proofs.lemmas.Bool.Decides.{nat_tests}
 use Rattle.std.specs.Result.{result_ok}
-use Rattle.pep440_text.specs.Record.{VersionRecord, release_record}
-use Rattle.pep440_text.specs.Reading.{read_version, version_of}
+use Rattle.pep440_version.specs.Record.{VersionRecord, release_record}
+use Rattle.pep440_version.specs.Reading.{read_version, version_of}
 use Rattle.pep440_version.specs.Packing.{packed, fits, word_of}
 
 pub found : (text numbers : List ℕ) (word : ℕ) → read_version text ≡ Ok (release_record numbers)

@@ -1,6 +1,7 @@
 //! Names of lines, whose normal forms are written into memory that is used again.
 
-ghost use Rattle.std.specs.Prelude.{◌≡◌, ◌<◌, ◌++◌, ◌∷◌, [], IsTrue, IfSome, Some, if◌then◌else◌, length, take, slice_index};
+ghost use Rattle.std.specs.Prelude.{◌≡◌, ◌<◌, ◌++◌, ◌∷◌, [], IsTrue, IfSome, Some, if◌then◌else◌};
+ghost use Rattle.std.specs.Prelude.{length, take, slice_index};
 ghost use Rattle.std.specs.Char.{to_ascii_lowercase};
 ghost use Rattle.pep508_name.specs.Name.{name_of, is_alphanumeric_at, is_separator};
 ghost use Rattle.reqtable_streaming.specs.PlainLines.{AddsByte};
@@ -44,7 +45,8 @@ fn begins_name(bytes: &[u8]) -> bool
 /// Appends what a byte of a name adds to its normal form, and returns whether the byte is a separator; `None`
 /// if it is in no name, or memory ran out. `separated` says whether the byte before is a separator.
 fn push_byte(normal: &mut Vec<u8>, separated: bool, byte: u8) -> Option<bool>
-    ensures { IfSome result (λ separates. AddsByte separated separates byte normal.old.items normal.new.items) }
+    ensures { IfSome result (λ separates.
+        AddsByte separated separates byte normal.old.items normal.new.items) }
 {
     if byte.is_ascii_alphanumeric() {
         if !push_letter(normal, separated, byte) {

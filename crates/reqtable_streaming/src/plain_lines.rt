@@ -16,9 +16,9 @@ pub(crate) fn without_return(line: &str) -> &str
     line.strip_suffix('\r').unwrap_or(line)
 }
 
-/// Writes the normal form of a line's name in place of what `normal` has, and returns the text of its version,
-/// if a space is between them and the version's is of printed ASCII characters without `#`. The line has no
-/// end. `None` also if memory ran out.
+/// Writes the normal form of a line's name in place of what `normal` has, and returns the text of its
+/// version, if a space is between them and the version's is of printed ASCII characters without `#`. The line
+/// has no end. `None` also if memory ran out.
 pub(crate) fn plain_parts<'a>(line: &'a str, normal: &mut Vec<u8>) -> Option<&'a str>
     ensures { IfSome result (λ version. (name : List ℕ) × ArePlainParts line.now name version.now
         × (name_of name ≡ Some normal.new.items)) }

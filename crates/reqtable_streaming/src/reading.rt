@@ -1,8 +1,8 @@
 //! The lines of candidates, read one after another.
 //!
-//! Most lines are a name, a space and a version in ASCII, without a comment. The normal form of such a name is
-//! written into memory that all lines share, and found there among the names of the packages, so that only a
-//! candidate which becomes the best one of its package gets a name of its own.
+//! Most lines are a name, a space and a version in ASCII, without a comment. The normal form of such a name
+//! is written into memory that all lines share, and found there among the names of the packages, so that only
+//! a candidate which becomes the best one of its package gets a name of its own.
 
 ghost use Rattle.std.specs.Prelude.{◌≡◌, true, false, Err, IsTrue, IsOkAnd, IfSome, List, OnOk, Some};
 ghost use Rattle.std.specs.List.{AllByRecursion, AllZip};
@@ -56,7 +56,16 @@ pub(crate) fn read_candidates<F: Fn(&Version, bool) -> bool>(
     let mut normal = Vec::new(alloc);
     for (index, line) in text.split('\n').enumerate() {
         let number = index + 1;
-        place = read_line(alloc, number, line, &mut normal, packages, names, place, admission)?;
+        place = read_line(
+            alloc,
+            number,
+            line,
+            &mut normal,
+            packages,
+            names,
+            place,
+            admission,
+        )?;
     }
     Ok(())
 }
@@ -90,7 +99,9 @@ fn read_line<F: Fn(&Version, bool) -> bool>(
 {
     if let Some(version) = plain_parts(without_return(line), normal) {
         let name = with_front(normal);
-        return read_plain(alloc, number, &name, version, packages, names, before, admission);
+        return read_plain(
+            alloc, number, &name, version, packages, names, before, admission,
+        );
     }
     let text = line_text(line);
     if is_blank(text) {
@@ -123,18 +134,22 @@ fn read_plain<F: Fn(&Version, bool) -> bool>(
         result (at_line number (candidate_by (Some name.now.name.now) (version_of version.now))) }
 {
     let Some(word) = read_word(version.as_bytes()) else {
-        return read_worded(alloc, number, name, version, None, packages, names, before, admission);
+        return read_worded(
+            alloc, number, name, version, None, packages, names, before, admission,
+        );
     };
     let (place, is_over) = passes_over(packages, names, before, name, word);
     if is_over {
         return Ok(place);
     }
     let word = Some(word);
-    read_worded(alloc, number, name, version, word, packages, names, place, admission)
+    read_worded(
+        alloc, number, name, version, word, packages, names, place, admission,
+    )
 }
 
-/// Reads the version of a line whose name was read, and offers the candidate to its package. `word` is that of
-/// the version, if it is known.
+/// Reads the version of a line whose name was read, and offers the candidate to its package. `word` is that
+/// of the version, if it is known.
 fn read_worded<F: Fn(&Version, bool) -> bool>(
     alloc: Global,
     number: usize,
@@ -163,7 +178,9 @@ fn read_worded<F: Fn(&Version, bool) -> bool>(
         let cause = CandidateFault::Version;
         return Err(CandidatesError::Line { number, cause });
     };
-    let place = offer_to(alloc, packages, names, before, name, version, word, admission)?;
+    let place = offer_to(
+        alloc, packages, names, before, name, version, word, admission,
+    )?;
     Ok(place)
 }
 
@@ -192,6 +209,8 @@ fn read_other<F: Fn(&Version, bool) -> bool>(
 {
     let Candidate { name, version } = read_candidate(alloc, number, text)?;
     let front = of_name(&name);
-    let place = offer_to(alloc, packages, names, before, &front, version, None, admission)?;
+    let place = offer_to(
+        alloc, packages, names, before, &front, version, None, admission,
+    )?;
     Ok(place)
 }

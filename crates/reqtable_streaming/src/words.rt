@@ -3,8 +3,8 @@
 //! Words order versions, so a candidate whose word is not above that of the best one is not read any further.
 
 ghost use Rattle.std.specs.Prelude.{◌≡◌, ◌<◌, ◌+◌, length, Some, Ok, IfSome};
-ghost use Rattle.pep440_text.specs.Record.{VersionRecord};
-ghost use Rattle.pep440_text.specs.Reading.{number_at, marked_number_at, version_of};
+ghost use Rattle.pep440_version.specs.Record.{VersionRecord};
+ghost use Rattle.pep440_version.specs.Reading.{number_at, marked_number_at, version_of};
 ghost use Rattle.pep440_version.specs.Packing.{packed};
 
 /// What the numbers of a release are multiplied by in a word, and what a word without a suffix ends in.

@@ -1,6 +1,5 @@
-use Rattle.std.proofs.Common.{◌≡◌, List, ℕ, subst}
+use Rattle.std.proofs.Common.{◌≡◌, ap, subst}
 use Rattle.std.specs.List.{AllZip}
-use Rattle.pep440_version.specs.Record.{VersionRecord}
 use Rattle.reqtable_candidates.specs.declared.candidates.Candidate.{Candidate}
 use Rattle.reqtable_streaming.specs.Packages.{IsNext, candidate_with}
 use Rattle.reqtable_streaming.proofs.reading.read_other.Goals as goal
@@ -10,11 +9,9 @@ returns-clause-answered g c =
     let read = c.in_ok-name.field-0 in
     let front = c.of_name-front.ensures in
     let name_is = c.in_ok-name.name-is in
-    let version_is = c.in_ok-name.version-is in
     let name : c.of_name-front.result.name.now ≡ read.name = cc in
-    let version : c.in_ok-name.version ≡ read.version = cc in
-    let same : candidate_with c.of_name-front.result.name.now c.in_ok-name.version ≡ read =
-    λ i. candidate_with (name i) (version i) in (
+    let same : candidate_with c.of_name-front.result.name.now read.version ≡ read =
+    ap (λ n. candidate_with n read.version) name in (
       read,
       c.in_ok-name.ensures.answered,
       λ admits by.

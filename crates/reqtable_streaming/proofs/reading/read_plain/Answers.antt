@@ -15,7 +15,7 @@ returns-then-is_over-clause-answered g c =
     let word = c.in-Some.word in
     let P : List ℕ → Type 0 = λ text. (version : VersionRecord) × (version_of text ≡ Some version) × (packed version ≡ Some word) in
     let Q : List Package → Type 0 = λ l.
-        (admits : Admits) (version : VersionRecord) → packed version ≡ Some word → AllZip (IsNext admits (candidate_with name version)) l l in
+    (admits : Admits) (version : VersionRecord) → packed version ≡ Some word → AllZip (IsNext admits (candidate_with name version)) l l in
     let read = over_read word c.args.version.now name c.args.number c.args.packages.now.items
     (subst P c.as_bytes.ensures.value c.in-Some.ensures)
     (subst Q c.deref.ensures.value (c.passes_over-place.ensures c.if-is_over.true)) in (

@@ -1,6 +1,6 @@
 use Rattle.std.proofs.Common.{◌≡◌, ◌-◌, ◌≤◌, ◌++◌, length, take, drop}
 use Rattle.std.specs.Str.Parse.{digits_value}
-use Rattle.pep440_text.specs.Reading.{leading_digits, behind_digits}
+use Rattle.pep440_version.specs.Reading.{leading_digits, behind_digits}
 use Rattle.reqtable_streaming.proofs.words.number.Given as goal
 
 abbrev pub invariant-loop-count : goal.invariant-loop-count
