@@ -6,3 +6,8 @@ pub mod Counting
 pub mod Read
 pub mod Lines
 pub mod OneRoad
+pub mod NormalForms
+pub mod PlainLines
+pub mod LineByLine
+pub mod PlainWords
+pub mod PassedOver

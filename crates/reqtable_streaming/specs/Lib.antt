@@ -1,2 +1,4 @@
 pub mod Packages
+pub mod PlainLines
+pub mod LinesRead
 pub mod Selection

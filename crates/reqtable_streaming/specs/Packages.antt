@@ -9,7 +9,9 @@ use Rattle.std.specs.Ordering.{nat_cmp}
 use Rattle.std.specs.Cmp.Lexicographic.{slice_cmp}
 use Rattle.std.specs.Str.{bytes_eq}
 use Rattle.std.specs.declared.cmp.Ordering.{Ordering}
+use Rattle.pep440_version.specs.Record.{VersionRecord}
 use Rattle.pep440_version.specs.Order.{version_cmp}
+use Rattle.pep440_version.specs.Packing.{packed}
 use Rattle.pep508_requirement_text.specs.FrontReading.{Front}
 use Rattle.reqtable_candidates.specs.declared.candidates.Candidate.{Candidate}
 use Rattle.reqtable_answer.specs.declared.answer.Outcome.{Outcome}
@@ -45,11 +47,18 @@ Finds packages name None = AllByRecursion (λ p. bytes_eq p.name.now name ≡ fa
 Finds packages name (Some place) =
     (place < length packages) × ((d : Package) → (slice_index_or packages place d).name.now ≡ name)
 
--- what a package keeps of its requirements is theirs
+-- a word that is known of the best candidate is that of its version
+abbrev pub IsWordOf : Option ℕ → Option Candidate → Type 0
+IsWordOf None best = Unit {0}
+IsWordOf (Some word) None = ⊥
+IsWordOf (Some word) (Some best) = packed best.version ≡ Some word
+
+-- what a package keeps of its requirements is theirs, and the word is that of its best candidate
 pub record IsSound (wanted : Package) : Type 0 where
   pub direct : wanted.direct ≡ list_any (λ ask. has_url (ask_seen ask)) wanted.asks.items
   pub prerelease : wanted.prerelease ≡ list_any (λ ask. has_prerelease (ask_seen ask)) wanted.asks.items
   pub told : TellsTaken wanted.asks.items wanted.range
+  pub word : IsWordOf wanted.word wanted.best
 
 abbrev pub AreSound : List Package → Type 0
 AreSound packages = AllByRecursion IsSound packages
@@ -67,6 +76,9 @@ pub record AreNew (all : List Front) (packages : List Package) : Type 0 where
   pub each : AllByRecursion (IsNew all) packages
 
 -- ---- a candidate is offered
+
+abbrev pub candidate_with : List ℕ → VersionRecord → Candidate
+candidate_with name version = record { name = name; version = version }
 
 -- a package is the same but for how its requirements are tested
 pub record IsAsBefore (old new : Package) : Type 0 where
@@ -90,6 +102,11 @@ pub record IsOffered (admits : Admits) (candidate : Candidate) (old new : Packag
   pub direct : new.direct ≡ old.direct
   pub best : old.direct ≡ false →
       new.best ≡ better_of by_version (passes admits old) candidate old.best
+
+-- offering a candidate with this word to its package changes nothing
+abbrev pub IsPassedOver : ℕ → Package → Type 0
+IsPassedOver word wanted = (admits : Admits) (candidate : Candidate) → packed candidate.version ≡ Some word →
+    IsOffered admits candidate wanted wanted
 
 -- a package after a candidate was offered to the package of its name, which is this one or not
 abbrev pub IsNextBy : Bool → Admits → Candidate → Package → Package → Type 0

@@ -4,28 +4,38 @@
 //! list of names with their fronts is dense: a step of a search reads one entry of it, and names only where
 //! fronts are equal and full: a name of seven bytes or fewer is its front, since no name has a byte 0. A
 //! front is a field with the fact that it is the name's, so that the contract of the comparison is that of
-//! names.
+//! names. The name is borrowed, so that a candidate's needs no memory of its own.
 
-ghost use Rattle.std.specs.Prelude.{◌≡◌, ◌<◌, ◌+◌, ◌*◌, ◌^◌, true};
-ghost use Rattle.pep508_name.specs.Name.{name_cmp};
+ghost use Rattle.std.specs.Prelude.{◌≡◌, ◌<◌, ◌+◌, ◌*◌, ◌^◌, true, Some};
+ghost use Rattle.pep508_name.specs.Name.{name_cmp, name_of};
 ghost use Rattle.reqtable_candidates.specs.Fronts.{first_or_none, behind_first, front_of, are_bytes};
 
 use pep508_name::PackageName;
 use std::cmp::Ordering;
 
-/// A name with its front.
+/// A name in normal form with its front.
 #[derive(Clone, Copy)]
 pub(crate) struct Fronted<'a> {
     pub(crate) front: u64,
-    pub(crate) name: &'a PackageName,
+    pub(crate) name: &'a [u8],
     pub(crate) ghost is_front: { front ≡ front_of name.now },
+    pub(crate) ghost has_bytes: { are_bytes name.now ≡ true },
 }
 
 /// The name with its front.
-pub(crate) fn with_front(name: &PackageName) -> Fronted<'_>
+pub(crate) fn of_name(name: &PackageName) -> Fronted<'_>
     ensures { result.name.now ≡ name.now }
 {
-    let front = front_of(name.as_str());
+    with_front(name.as_str().as_bytes())
+}
+
+/// The bytes, which are a name in normal form, with its front.
+#[tactic(auto, using(reqtable_candidates::proofs::Fronts::name_of_bytes))]
+pub(crate) fn with_front(name: &[u8]) -> Fronted<'_>
+    requires { name_of name.now ≡ Some name.now }
+    ensures { result.name.now ≡ name.now }
+{
+    let front = front_of(name);
     Fronted { front, name }
 }
 
@@ -33,29 +43,24 @@ pub(crate) fn with_front(name: &PackageName) -> Fronted<'_>
 pub(crate) fn compare(a: &Fronted<'_>, b: &Fronted<'_>) -> Ordering
     ensures { result ≡ name_cmp a.now.name.now b.now.name.now }
 {
-    let front = a.front.cmp(&b.front);
-    if front.is_ne() || a.front % 256 == 0 {
-        has_bytes(a.name);
-        has_bytes(b.name);
-        return front;
+    if a.front < b.front {
+        return Ordering::Less;
     }
-    a.name.as_str().cmp(b.name.as_str())
+    if a.front > b.front {
+        return Ordering::Greater;
+    }
+    if a.front % 256 == 0 {
+        return Ordering::Equal;
+    }
+    a.name.cmp(b.name)
 }
 
-/// Does nothing: its contract is that a name consists of bytes.
-#[tactic(auto, using(reqtable_candidates::proofs::Fronts::name_of_bytes))]
-fn has_bytes(name: &PackageName)
-    ensures { are_bytes name.now ≡ true }
-{
-    let _ = name.as_str();
-}
-
-/// The first eight bytes of a text as one big-endian number; missing bytes are 0.
+/// The first of some bytes, eight at most, as one big-endian number; missing bytes are 0.
 #[tactic(auto, unfolding(reqtable_candidates::specs::Fronts::front_of))]
-fn front_of(text: &str) -> u64
-    ensures { result ≡ front_of text.now }
+fn front_of(bytes: &[u8]) -> u64
+    ensures { result ≡ front_of bytes.now }
 {
-    let (front, rest) = shifted(0, text.as_bytes());
+    let (front, rest) = shifted(0, bytes);
     let (front, rest) = shifted(front, rest);
     let (front, rest) = shifted(front, rest);
     let (front, rest) = shifted(front, rest);

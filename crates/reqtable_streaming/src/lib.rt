@@ -12,12 +12,15 @@
 
 mod fronts;
 pub mod laws;
+mod naming;
 mod offering;
+mod plain_lines;
 mod reading;
 mod required;
 mod selecting;
 mod selection;
 mod streaming;
+mod words;
 
 pub use selection::Selection;
 pub use streaming::judge_text;

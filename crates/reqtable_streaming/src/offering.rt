@@ -4,12 +4,15 @@
 //! is it tested against the requirements: against each by itself at first, and by their range once their
 //! specifiers and the tested candidates are many.
 
-ghost use Rattle.std.specs.Prelude.{◌≡◌, IfOk, OnOk};
+ghost use Rattle.std.specs.Prelude.{◌≡◌, IfOk, IfSome, IsTrue, OnOk, Some};
 ghost use Rattle.std.specs.List.{AllZip};
+ghost use Rattle.pep440_version.specs.Record.{VersionRecord};
+ghost use Rattle.pep440_version.specs.Packing.{packed};
 ghost use Rattle.reqtable_answer.specs.Admission.{Admits, AnswersBy};
 ghost use Rattle.reqtable_answer.specs.Groups.{exceeds};
 ghost use Rattle.reqtable_streaming.specs.Packages.{AreRising, AreNamesOf, AreSound, IsSound, names_of};
-ghost use Rattle.reqtable_streaming.specs.Packages.{by_version, IsAsBefore, IsOffered, IsNext};
+ghost use Rattle.reqtable_streaming.specs.Packages.{by_version, candidate_with, IsAsBefore};
+ghost use Rattle.reqtable_streaming.specs.Packages.{IsOffered, IsNext, IsPassedOver};
 
 use crate::fronts::Fronted;
 use crate::required::{Package, place_of};
@@ -18,67 +21,111 @@ use reqtable_answer::{Admission, all_take, range_of};
 use reqtable_candidates::Candidate;
 use std::alloc::{AllocError, Global};
 
-/// Offers a candidate to its package, if that is required. `names` are those of the packages. `before` is the
-/// place of the package of the candidate before; returns that of this candidate.
+/// Offers the candidate of a name and a version to its package, if that is required. `names` are those of the
+/// packages. `before` is the place of the package of the candidate before; returns that of this candidate.
 pub(crate) fn offer_to<F: Fn(&Version, bool) -> bool>(
     alloc: Global,
     packages: &mut Vec<Package<'_>>,
     names: &[Fronted<'_>],
     before: usize,
-    candidate: Candidate,
+    name: &Fronted<'_>,
+    version: Version,
+    word: Option<u64>,
     admission: &Admission<F>,
 ) -> Result<usize, AllocError>
     requires callable { F.IsAlwaysCallable admission.now }
+    requires packed { IfSome word (λ n. packed version ≡ Some n) }
     requires rising { AreRising packages.old.items }
     requires named { AreNamesOf packages.old.items names.now }
     requires sound { AreSound packages.old.items }
     ensures names { OnOk result (names_of packages.new.items ≡ names_of packages.old.items) }
     ensures sound { OnOk result (AreSound packages.new.items) }
     ensures offered { OnOk result ((admits : Admits) → AnswersBy (F.post admission.now) admits →
-        AllZip (IsNext admits candidate) packages.old.items packages.new.items) }
+        AllZip (IsNext admits (candidate_with name.now.name.now version)) packages.old.items
+        packages.new.items) }
 {
-    let Some(place) = place_of(packages, names, before, &candidate.name) else {
+    let Some(place) = place_of(packages, names, before, name) else {
         return Ok(before);
     };
-    offer(alloc, &mut packages[place], candidate, admission)?;
+    offer(alloc, &mut packages[place], version, word, admission)?;
     Ok(place)
 }
 
-/// Makes the candidate the package's best one, if it is admitted, higher than the best one before it, and
-/// accepted.
+/// Returns the place of the package of this name, or `before` if none has it, and whether it is known that
+/// offering a candidate of it whose version has this word would change nothing.
+pub(crate) fn passes_over(
+    packages: &[Package<'_>],
+    names: &[Fronted<'_>],
+    before: usize,
+    name: &Fronted<'_>,
+    word: u64,
+) -> (usize, bool)
+    requires rising { AreRising packages.now }
+    requires named { AreNamesOf packages.now names.now }
+    requires sound { AreSound packages.now }
+    ensures { IsTrue result.1 → (admits : Admits) (version : VersionRecord) → packed version ≡ Some word →
+        AllZip (IsNext admits (candidate_with name.now.name.now version)) packages.now packages.now }
+{
+    match place_of(packages, names, before, name) {
+        None => (before, true),
+        Some(place) => (place, is_past(&packages[place], word)),
+    }
+}
+
+/// Whether no version with this word becomes that of the package's best candidate, because there is a URL or
+/// the best one so far is known to be as high.
+fn is_past(wanted: &Package<'_>, word: u64) -> bool
+    requires { IsSound wanted.now }
+    ensures { IsTrue result → IsPassedOver word wanted.now }
+{
+    if wanted.direct {
+        return true;
+    }
+    match wanted.word {
+        Some(best) => word <= best,
+        None => false,
+    }
+}
+
+/// Makes the version that of the package's best candidate, if it is admitted, higher than the best one before
+/// it, and accepted. Only then the candidate gets a name in memory of its own.
 fn offer<F: Fn(&Version, bool) -> bool>(
     alloc: Global,
     wanted: &mut Package<'_>,
-    candidate: Candidate,
+    version: Version,
+    word: Option<u64>,
     admission: &Admission<F>,
 ) -> Result<(), AllocError>
     requires callable { F.IsAlwaysCallable admission.now }
+    requires packed { IfSome word (λ n. packed version ≡ Some n) }
     requires sound { IsSound wanted.old }
     ensures name { OnOk result (wanted.new.name ≡ wanted.old.name) }
     ensures sound { OnOk result (IsSound wanted.new) }
     ensures offered { OnOk result ((admits : Admits) → AnswersBy (F.post admission.now) admits →
-        IsOffered admits candidate wanted.old wanted.new) }
+        IsOffered admits (candidate_with wanted.old.name.now version) wanted.old wanted.new) }
 {
-    if wanted.direct || !is_greater(&candidate, &wanted.best) {
+    if wanted.direct || !is_greater(wanted, &version) {
         return Ok(());
     }
-    if !admission.admits(&candidate.version, wanted.prerelease) {
+    if !admission.admits(&version, wanted.prerelease) {
         return Ok(());
     }
     prepare(alloc, wanted)?;
-    if all_take(alloc, &wanted.asks, &wanted.range, &candidate.version)? {
-        wanted.best = Some(candidate);
+    if all_take(alloc, &wanted.asks, &wanted.range, &version)? {
+        let name = wanted.name.try_clone(alloc)?;
+        wanted.best = Some(Candidate { name, version });
+        wanted.word = word;
     }
     Ok(())
 }
 
-/// Whether the candidate is higher than the best one before it.
-fn is_greater(candidate: &Candidate, best: &Option<Candidate>) -> bool
-    ensures { result ≡ exceeds by_version candidate.now best.now }
+/// Whether the version is higher than that of the package's best candidate so far.
+fn is_greater(wanted: &Package<'_>, version: &Version) -> bool
+    ensures { result ≡ exceeds by_version (candidate_with wanted.now.name.now version.now) wanted.now.best }
 {
-    match best {
+    match &wanted.best {
         None => true,
-        Some(best) => candidate.version > best.version,
+        Some(best) => *version > best.version,
     }
 }
 

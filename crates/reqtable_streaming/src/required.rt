@@ -11,7 +11,7 @@ ghost use Rattle.reqtable_answer.specs.Says.{asks_seen};
 ghost use Rattle.reqtable_streaming.specs.Packages.{AreGroups, AreNew, AreRising, AreNamesOf};
 ghost use Rattle.reqtable_streaming.specs.Packages.{IsSound, Finds};
 
-use crate::fronts::{Fronted, compare, with_front};
+use crate::fronts::{Fronted, compare, of_name};
 use pep508_name::PackageName;
 use reqtable_answer::{Ask, Groups, is_direct, names_prerelease};
 use reqtable_candidates::Candidate;
@@ -34,6 +34,8 @@ pub(crate) struct Package<'a> {
     pub(crate) range: Option<OneRange<'a>>,
     /// The first among the highest candidates so far that are admitted and accepted.
     pub(crate) best: Option<Candidate>,
+    /// The word of its version, where that was read.
+    pub(crate) word: Option<u64>,
 }
 
 /// The packages of groups of requirements, sorted by their names.
@@ -71,6 +73,7 @@ fn package_of<'a>(alloc: Global, asks: &[Ask<'a>]) -> Result<Package<'a>, AllocE
         tested: 0,
         range: None,
         best: None,
+        word: None,
     })
 }
 
@@ -94,7 +97,7 @@ pub(crate) fn fronted_names<'a>(
 {
     let mut names = Vec::new(alloc);
     for wanted in packages {
-        names.push(with_front(wanted.name))?;
+        names.push(of_name(wanted.name))?;
     }
     Ok(names)
 }
@@ -105,17 +108,16 @@ pub(crate) fn place_of(
     packages: &[Package<'_>],
     names: &[Fronted<'_>],
     before: usize,
-    name: &PackageName,
+    name: &Fronted<'_>,
 ) -> Option<usize>
     requires rising { AreRising packages.now }
     requires named { AreNamesOf packages.now names.now }
-    ensures { Finds packages.now name.now result }
+    ensures { Finds packages.now name.now.name.now result }
 {
-    let wanted = with_front(name);
-    if before < packages.len() && compare(&names[before], &wanted).is_eq() {
+    if before < packages.len() && compare(&names[before], name).is_eq() {
         return Some(before);
     }
-    match names.binary_search_by(|other| compare(other, &wanted)) {
+    match names.binary_search_by(|other| compare(other, name)) {
         Ok(place) => Some(place),
         Err(_) => None,
     }

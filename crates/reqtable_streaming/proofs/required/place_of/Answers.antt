@@ -11,9 +11,9 @@ use Rattle.reqtable_streaming.proofs.required.place_of.Goals as goal
 
 pub returns-then-is_eq : goal.returns-then-is_eq
 returns-then-is_eq c =
-    let q = c.args.name.now in
+    let q = c.args.name.now.name.now in
     let found = c.index-names-before.result in
-    let equal = sym (c.is_eq.ensures ∙ ap is_eq (c.compare.ensures ∙ ap (slice_cmp nat_cmp found.name.now) c.with_front-wanted.ensures)) ∙ c.if-is_eq.true in (
+    let equal = sym (c.is_eq.ensures ∙ ap is_eq c.compare.ensures) ∙ c.if-is_eq.true in (
       c.if-before-packages.true,
       λ d.
           same_at (λ (p : Package). p.name.now) (λ (n : Fronted). n.name.now) c.args.packages.now c.args.names.now (sym c.requires.named) c.args.before d found c.if-before-packages.true
@@ -22,8 +22,8 @@ returns-then-is_eq c =
 
 pub returns-in-Ok : goal.returns-in-Ok
 returns-in-Ok c =
-    let q = c.args.name.now in
-    let wanted = c.with_front-wanted.result in
+    let q = c.args.name.now.name.now in
+    let wanted = c.args.name.now in
     let at = c.in-Ok.ensures.position (λ (n : Fronted). slice_cmp nat_cmp n.name.now q)
     (always_returns_same _ _ _ (λ a r f k. search rules)) in
     let within : c.in-Ok.place < length c.args.packages.now =
@@ -36,7 +36,7 @@ returns-in-Ok c =
 
 pub returns-in-Err : goal.returns-in-Err
 returns-in-Err c =
-    let q = c.args.name.now in
+    let q = c.args.name.now.name.now in
     let names = c.args.names.now in
     let parted = c.in-Err.ensures.position (λ (n : Fronted). slice_cmp nat_cmp n.name.now q)
     (always_returns_same _ _ _ (λ a r f k. search rules)) in

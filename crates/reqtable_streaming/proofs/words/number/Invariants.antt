@@ -1,0 +1,16 @@
+use Rattle.std.proofs.Common.{◌≡◌, ◌-◌, ◌≤◌, ◌++◌, length, take, drop}
+use Rattle.std.specs.Str.Parse.{digits_value}
+use Rattle.pep440_version.specs.Reading.{leading_digits, behind_digits}
+use Rattle.reqtable_streaming.proofs.words.number.Given as goal
+
+abbrev pub invariant-loop-count : goal.invariant-loop-count
+invariant-loop-count l = record {
+  within : l.count ≤ length l.bytes;
+  digits : take l.count l.bytes ++ leading_digits (drop l.count l.bytes) ≡ leading_digits l.bytes;
+  rest : behind_digits (drop l.count l.bytes) ≡ behind_digits l.bytes;
+  so_far : l.total ≡ digits_value 10 (take l.count l.bytes);
+  fits : l.total ≤ 100245;
+}
+
+abbrev pub decreases-loop-count : goal.decreases-loop-count
+decreases-loop-count l = length l.bytes - l.count
