@@ -137,9 +137,9 @@ FAULTS = [
           "crates/pep508_rs/src/lib.rt", "{Interner, MarkerTree}", "{Interner, MarkerTree, uncounted_conjunction}"),
     Fault("a matrix that keeps a copy of its requirements", None, LENT,
           "crates/reqs_answers/src/matrices.rt",
-          "let mut table = table_of(alloc, requirements, interner, request.limit, request.bounds)?;",
+          "let table = table_of(alloc, requirements, interner, request.limit, request.bounds)?;",
           "let copy = copied_packages(alloc, &requirements, &[])?; "
-          "let mut table = table_of(alloc, copy, interner, request.limit, request.bounds)?;"),
+          "let table = table_of(alloc, copy, interner, request.limit, request.bounds)?;"),
     Fault("a list of files that lacks one", None, FILES, "docs/FILES.md", "- `gate/floors.py`: ", "- `gate/floor.py`: "),
     Fault("a crate of another version", None, VERSIONS, "rust/fowlyore/Cargo.toml", '\nversion = "', '\nversion = "1'),
     Fault("a library for C that isn't packed", "reqs_c", PACK, "tools/pack.sh", "set -eu\n", "exit 1\n"),
