@@ -1,6 +1,6 @@
 -- A list or set is within another exactly where both together are the other, or the one.
 use Rattle.std.proofs.Common.{◌≡◌, ◌∙◌, ◌&&◌, ◌||◌, ◌↔◌, IsTrue, ℕ, Bool, true, false, List, [], ◌∷◌}
-use Rattle.std.proofs.Common.{refl, sym, ap, subst, true≢false}
+use Rattle.std.proofs.Common.{inl, inr, refl, sym, ap, subst, true≢false}
 use Rattle.std.specs.List.{list_any}
 use Rattle.std.specs.List.Sorted.{IsStrictlySortedBy}
 use Rattle.std.specs.Ordering.{nat_cmp}
@@ -11,7 +11,7 @@ use Rattle.version_ranges.specs.Held.{HoldSamePoints, holds_at}
 use Rattle.pep440_version.specs.Record.{VersionRecord}
 use Rattle.pep440_version.specs.Order.{version_cmp}
 use Rattle.reqtable_answer.proofs.OneAnswer.{same_texts}
-use Rattle.reqtable_compare.specs.Summed.{HasAll, HoldsWithin}
+use Rattle.reqtable_compare.specs.Summed.{SummaryRecord, HasAll, HoldsWithin, WithinRange, Covering}
 
 -- ---- points
 
@@ -55,3 +55,26 @@ all_is same all extras wanted rise rise' are equal = (
   λ has. equal.1 (same_texts all extras rise' rise
       (λ e. are e ∙ only_first (list_any (bytes_eq e) extras) (list_any (bytes_eq e) wanted) (has e))),
 )
+
+-- ---- cases with lines
+
+module _ (a b : SummaryRecord) (some : a.some ≡ true) (other : b.some ≡ true) (extras : Bool)
+    (has : IsTrue extras ↔ HasAll a.extras b.extras) where
+  pub not_covering : extras ≡ false → IsTrue false ↔ Covering a b
+  not_covering e = (
+    λ t. absurd (true≢false (sym t)),
+    λ h. elim h [
+      | inl none ↦ absurd (true≢false (sym other ∙ none))
+      | inr both ↦ sym e ∙ has.1 both.extras
+    ],
+  )
+
+  pub covering_by : extras ≡ true → (range : Bool) → (IsTrue range ↔ WithinRange a.range b.range) →
+      IsTrue range ↔ Covering a b
+  covering_by e range within = (
+    λ t. inr (record { some = some; extras = has.0 e; range = within.0 t }),
+    λ h. elim h [
+      | inl none ↦ absurd (true≢false (sym other ∙ none))
+      | inr both ↦ within.1 both.range
+    ],
+  )

@@ -54,13 +54,18 @@ impl Summary {
         ensures { IfOk result (λ covers.
             IsTrue covers ↔ Covering (summary_record self.now) (summary_record other.now)) }
     {
+        if !self.has_lines {
+            return Ok(!other.has_lines);
+        }
         if !other.has_lines {
             return Ok(true);
         }
-        if !self.has_lines || !has_all(alloc, &self.extras, &other.extras)? {
+        let extras = has_all(alloc, &self.extras, &other.extras)?;
+        if !extras {
             return Ok(false);
         }
-        is_within_range(alloc, &self.range, &other.range)
+        let range = is_within_range(alloc, &self.range, &other.range)?;
+        Ok(range)
     }
 
     /// Whether both cases require nothing, or both the same.

@@ -55,20 +55,20 @@ abbrev numbers : List Line → List ℕ
 numbers lines = map (λ line. line.number) lines
 
 module _ (p : Line → Bool) where
-  kept_by : (b : Bool) (y x : Line) (as bs : List Line) → numbers as ≡ numbers bs ++ x.number ∷ [] →
-      numbers (cond b (y ∷ as) as) ≡ numbers (cond b (y ∷ bs) bs) ++ x.number ∷ []
-  kept_by true y x as bs h = ap (λ l. y.number ∷ l) h
-  kept_by false y x as bs h = h
+  kept_by : (b : Bool) (y x : Line) (xs ys : List Line) → numbers xs ≡ numbers ys ++ x.number ∷ [] →
+      numbers (cond b (y ∷ xs) xs) ≡ numbers (cond b (y ∷ ys) ys) ++ x.number ∷ []
+  kept_by true y x xs ys h = ap (λ l. y.number ∷ l) h
+  kept_by false y x xs ys h = h
 
   kept_last : (xs : List Line) (x : Line) → p x ≡ true →
       numbers (filter p (xs ++ x ∷ [])) ≡ numbers (filter p xs) ++ x.number ∷ []
   kept_last [] x e = ap (λ b. numbers (cond b (x ∷ []) [])) e
   kept_last (y ∷ xs) x e = kept_by (p y) y x (filter p (xs ++ x ∷ [])) (filter p xs) (kept_last xs x e)
 
-  left_by : (b : Bool) (y : Line) (as bs : List Line) → numbers as ≡ numbers bs →
-      numbers (cond b (y ∷ as) as) ≡ numbers (cond b (y ∷ bs) bs)
-  left_by true y as bs h = ap (λ l. y.number ∷ l) h
-  left_by false y as bs h = h
+  left_by : (b : Bool) (y : Line) (xs ys : List Line) → numbers xs ≡ numbers ys →
+      numbers (cond b (y ∷ xs) xs) ≡ numbers (cond b (y ∷ ys) ys)
+  left_by true y xs ys h = ap (λ l. y.number ∷ l) h
+  left_by false y xs ys h = h
 
   left_last : (xs : List Line) (x : Line) → p x ≡ false →
       numbers (filter p (xs ++ x ∷ [])) ≡ numbers (filter p xs)

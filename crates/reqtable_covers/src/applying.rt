@@ -22,18 +22,18 @@ use std::alloc::{AllocError, Global};
 pub(crate) fn numbers_where(
     alloc: Global,
     lines: &[Line],
-    package: &PackageName,
+    name: &PackageName,
     tree: MarkerTree,
     interner: &Interner,
 ) -> Result<Vec<usize>, AllocError>
     requires made { IsTree interner.now.nodes tree }
     requires markers { AreOfNodes interner.now.nodes lines.now }
     ensures { IfOk result (λ numbers.
-        AreNumbersWhere interner.now.nodes package.now tree lines.now numbers.items) }
+        AreNumbersWhere interner.now.nodes name.now tree lines.now numbers.items) }
 {
     let mut numbers = Vec::new(alloc);
     for line in lines {
-        let applies = applies_where(alloc, line, package, tree, interner)?;
+        let applies = applies_where(alloc, line, name, tree, interner)?;
         if applies {
             numbers.push(line.number)?;
         }
@@ -45,15 +45,15 @@ pub(crate) fn numbers_where(
 fn applies_where(
     alloc: Global,
     line: &Line,
-    package: &PackageName,
+    name: &PackageName,
     tree: MarkerTree,
     interner: &Interner,
 ) -> Result<bool, AllocError>
     requires made { IsTree interner.now.nodes tree }
     requires marker { IsTree interner.now.nodes line.now.requirement.marker }
-    ensures { IfOk result (AppliesWhere interner.now.nodes package.now tree line.now) }
+    ensures { IfOk result (AppliesWhere interner.now.nodes name.now tree line.now) }
 {
-    if !is_under(package, line) {
+    if !is_under(name, line) {
         return Ok(false);
     }
     let apart = tree.is_disjoint(alloc, interner, line.requirement.marker)?;
@@ -61,8 +61,8 @@ fn applies_where(
 }
 
 /// Whether a line is of the package.
-fn is_under(package: &PackageName, line: &Line) -> bool
-    ensures { result ≡ is_under package.now line.now }
+fn is_under(name: &PackageName, line: &Line) -> bool
+    ensures { result ≡ is_under name.now line.now }
 {
-    package.as_str() == line.requirement.name.as_str()
+    name.as_str() == line.requirement.name.as_str()
 }

@@ -13,7 +13,7 @@ applies_where-requires-clause-marker c =
 pub loop-line-preserved : goal.loop-line-preserved
 loop-line-preserved c fixed v there =
     let nodes = c.args.interner.now.nodes in
-    let name = c.args.package.now in
+    let name = c.args.name.now in
     let lines = c.args.lines.now in
     let i = c.loop-line.line-index in
     let line = c.line-item.result in

@@ -27,13 +27,13 @@ returns-in-Ok-Yes-clause-covered c vars said others h h' =
 pub returns-in-Ok-No-clause-covered : goal.returns-in-Ok-No-clause-covered
 returns-in-Ok-No-clause-covered c vars said others h h' =
     let new = c.related.new.interner.nodes in
-    let package = c.in-Ok-No.package in
+    let name = c.in-Ok-No.package in
     let tree = c.in-Ok-No.tree in
     let both = subst (λ (s : Same). RelatesBy relations.Covering c.args.limit c.args.in_all new said others (Ok s))
     c.in-Ok-No.field-0-is (c.in-Ok-No.ensures.related vars said others h h') in (
       both.0,
-      uncovered vars new c.args.requirements.now said others package tree both.1 c.in_ok-lines.lines.items
+      uncovered vars new c.args.requirements.now said others name tree both.1 c.in_ok-lines.lines.items
           (lines_kept vars c.args.interner.now.nodes new c.in-Ok-No.ensures.keeps c.args.requirements.now others h')
-          (subst (λ l. AreNumbersWhere new package tree l c.in_ok-lines.lines.items) c.lines.ensures
+          (subst (λ l. AreNumbersWhere new name tree l c.in_ok-lines.lines.items) c.lines.ensures
           c.in_ok-lines.ensures),
     )
