@@ -17,7 +17,6 @@ use Rattle.reqtable_compare.specs.declared.sides.Relation.{Relation}
 use Rattle.reqtable_compare.specs.Summed.{SummaryRecord}
 use Rattle.reqtable_compare.specs.Totals.{IsSummed, AreSummed, no_lines}
 use Rattle.reqtable_compare.specs.Pairs.{PassesAll, AreApart, ArePartners}
-use Rattle.reqtable_compare.proofs.Likeness.{alike_fits}
 use Rattle.reqtable_compare.proofs.Packages.{summed_under}
 
 -- ---- it passes beside all of them
@@ -42,9 +41,9 @@ middle nodes f other [] back apart = apart.0
 middle nodes f other (s ∷ front) back apart = middle nodes f other front back apart.1
 
 beside : (relation : Relation) (nodes : List NodeRecord) (one other : SummaryRecord) (front back : List SummaryRecord) →
-    ArePartners one other → AreApart nodes (front ++ other ∷ back) → PassesAll relation nodes (front ++ other ∷ back) one
+    ArePartners relation one other → AreApart nodes (front ++ other ∷ back) → PassesAll relation nodes (front ++ other ∷ back) one
 beside relation nodes one other [] back partners apart = (
-  inl (alike_fits relation one other partners.alike),
+  inl partners.fit,
   behind relation nodes one other back partners.tree apart.0,
 )
 beside relation nodes one other (f ∷ front) back partners apart = (
@@ -56,7 +55,7 @@ beside relation nodes one other (f ∷ front) back partners apart = (
 
 pub passes_beside : (relation : Relation) (nodes : List NodeRecord) (one other : SummaryRecord)
     (all front back : List SummaryRecord) →
-    all ≡ front ++ other ∷ back → ArePartners one other → AreApart nodes all → PassesAll relation nodes all one
+    all ≡ front ++ other ∷ back → ArePartners relation one other → AreApart nodes all → PassesAll relation nodes all one
 passes_beside relation nodes one other all front back split partners apart =
     subst (λ l. PassesAll relation nodes l one) (sym split)
     (beside relation nodes one other front back partners (subst (AreApart nodes) split apart))

@@ -134,23 +134,6 @@ pub alike_related : (relation : Relation) (asks others : List Front) → Require
 alike_related relations.Alike asks others h = h
 alike_related relations.Covering asks others h = alike_covered asks others h
 
-same_within : (a b : Range) → SameRange a b → WithinRange a b
-same_within None b same = absurd same
-same_within (Some x) None same = absurd same
-same_within (Some x) (Some y) same = (λ p h. sym (same p) ∙ h)
-
-alike_covers : (a b : SummaryRecord) → Alike a b → Covering a b
-alike_covers a b (inl none) = inl none.1
-alike_covers a b (inr both) = inr (record {
-  some = both.some;
-  extras = λ e there. ap (list_any (bytes_eq e)) both.extras ∙ there;
-  range = same_within a.range b.range both.range;
-})
-
-pub alike_fits : (relation : Relation) (a b : SummaryRecord) → Alike a b → Fit relation a b
-alike_fits relations.Alike a b h = h
-alike_fits relations.Covering a b h = alike_covers a b h
-
 -- ---- lists of names
 
 both_true : (a b : Bool) → (a && b) ≡ true → (a ≡ true) × (b ≡ true)

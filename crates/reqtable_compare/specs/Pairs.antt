@@ -9,7 +9,7 @@ use Rattle.pep508_tree.specs.Meaning.{NodeRecord, IsTree}
 use Rattle.pep508_tree.specs.Disjoint.{AreDisjoint}
 use Rattle.reqtable_compare.specs.declared.pairing.Meeting.{Meeting}
 use Rattle.reqtable_compare.specs.declared.sides.Relation.{Relation}
-use Rattle.reqtable_compare.specs.Summed.{SummaryRecord, Alike, Fit}
+use Rattle.reqtable_compare.specs.Summed.{SummaryRecord, Fit}
 
 -- the cases of a pair require what the relation has, or never hold together
 abbrev pub Passes : Relation → List NodeRecord → SummaryRecord → SummaryRecord → Type 0
@@ -35,10 +35,10 @@ AreApart nodes [] = Unit {0}
 AreApart nodes (s ∷ rest) =
     AllByRecursion (λ other. AreDisjoint nodes s.tree other.tree) rest × AreApart nodes rest
 
--- both cases hold under the same valuations, and require the same
-pub record ArePartners (a b : SummaryRecord) : Type 0 where
+-- both cases hold under the same valuations, and require what the relation has
+pub record ArePartners (relation : Relation) (a b : SummaryRecord) : Type 0 where
   pub tree : a.tree ≡ b.tree
-  pub alike : Alike a b
+  pub fit : Fit relation a b
 
 -- the cases of a pair don't require what the relation has, and hold together somewhere
 pub record Fails (relation : Relation) (nodes : List NodeRecord) (a b : SummaryRecord) : Type 0 where

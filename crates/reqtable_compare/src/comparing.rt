@@ -150,9 +150,10 @@ pub fn same_within<'a>(
 /// cases at which they don't.
 ///
 /// As `same`, which is this call with `Relation::Alike`, and, where the cases in all are bounded, as
-/// `same_within`. A package of which both lists have equal lines is settled by these here too. Where its
-/// cases are compared, those that have a partner on the other side that requires the same need no other
-/// comparison.
+/// `same_within`: a package of which both lists have equal lines is settled by these here too. Of other
+/// packages a case needs no comparison but that with the case of the other side that has the same tree, if
+/// there is one and both require what the relation has. For `Relation::Covering` two cases are compared by
+/// an intersection of their ranges and a list of the extras of both.
 ///
 /// # Errors
 ///

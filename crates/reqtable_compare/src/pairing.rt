@@ -1,8 +1,7 @@
 //! The first pair of cases that hold together and don't require what a relation has.
 //!
-//! A case whose tree is also a case's on the other side, which requires the same, needs no other comparison,
-//! whatever the relation.
-//! If there are few others, each is compared with all cases on the other side. If there are many, one diagram
+//! A case whose tree is also a case's on the other side, where both require what the relation has, needs no
+//! other comparison. If there are few others, each is compared with all cases on the other side. If there are many, one diagram
 //! of both sides' cases tells which pairs hold together, and only those are compared; but where very many do,
 //! all are compared, so that no long list is kept. A conjunction is made of the one pair that is reported.
 
@@ -13,7 +12,6 @@ ghost use Rattle.pep508_cases.specs.Pairs.{AreMeeting};
 ghost use Rattle.reqtable_compare.specs.Seen.{summary_record};
 ghost use Rattle.reqtable_compare.specs.Pairs.{Decides, FindsOther, FindsTrees, AreOfTrees, AreApart};
 ghost use Rattle.reqtable_compare.specs.Pairs.{PassesAll, ArePartners, case_trees, ExtrasRise};
-ghost use Rattle.reqtable_compare.specs.declared.sides.Relation.{Relation as By};
 
 use crate::sides::Relation;
 use crate::summary::Summary;
@@ -45,9 +43,9 @@ pub(crate) struct Meeting {
 /// The trees of the first pair of cases that hold together and don't require what the relation has, by the
 /// left side's cases and then by the right side's. `None` if each pair does or never holds together.
 ///
-/// A case whose tree is also a case's on the other side, which requires the same, is compared with no
-/// other, since those never hold together with it: so sides that are equal need as many comparisons as
-/// they have cases. If there are many other cases, one comparison is needed for each pair of cases that
+/// A case whose tree is also a case's on the other side, where both require what the relation has, is
+/// compared with no other, since those never hold together with it: so sides that are equal need as many
+/// comparisons as they have cases. If there are many other cases, one comparison is needed for each pair of cases that
 /// hold together, and the time of the diagram of all cases. If there are few, or very many such pairs, k
 /// and m cases need at most k * m comparisons, and one check whether two trees are disjoint for each pair
 /// that doesn't require what the relation has.
@@ -66,7 +64,7 @@ pub(crate) fn first_trees(
         (map summary_record right.now)) }
 {
     let places = places_of(alloc, right)?;
-    if are_many(left, right, &places) {
+    if are_many(alloc, relation, left, right, &places)? {
         if let Some(pairs) = listed_pairs(alloc, interner, left, right)? {
             return first_listed(alloc, relation, interner, left, right, &pairs);
         }
@@ -87,32 +85,65 @@ fn places_of(alloc: Global, right: &[Summary]) -> Result<Places, AllocError> {
 }
 
 /// Whether the cases that have no partner need many comparisons.
-fn are_many(left: &[Summary], right: &[Summary], places: &Places) -> bool {
+fn are_many(
+    alloc: Global,
+    relation: Relation,
+    left: &[Summary],
+    right: &[Summary],
+    places: &Places,
+) -> Result<bool, AllocError>
+    requires { AllByRecursion ExtrasRise (map summary_record left.now) }
+{
     let mut others: usize = 0;
     for one in left {
-        if !has_partner(places, one, right) {
+        let has = has_partner(alloc, relation, places, one, right)?;
+        if !has {
             others = others.saturating_add(1);
         }
     }
-    others.saturating_mul(right.len()) > MANY
+    Ok(others.saturating_mul(right.len()) > MANY)
 }
 
-/// Whether a case of the other side has the same tree and requires the same.
-fn has_partner(places: &Places, one: &Summary, right: &[Summary]) -> bool
-    ensures { (relation : By) (nodes : List NodeRecord) → AreApart nodes (map summary_record right.now) →
-        IsTrue result → PassesAll relation nodes (map summary_record right.now) (summary_record one.now) }
+/// Whether a case of the other side has the same tree, and both require what the relation has.
+fn has_partner(
+    alloc: Global,
+    relation: Relation,
+    places: &Places,
+    one: &Summary,
+    right: &[Summary],
+) -> Result<bool, AllocError>
+    requires { ExtrasRise (summary_record one.now) }
+    ensures { IfOk result (λ has. (nodes : List NodeRecord) → AreApart nodes (map summary_record right.now) →
+        IsTrue has → PassesAll relation nodes (map summary_record right.now) (summary_record one.now)) }
 {
     match places.get(&one.tree) {
-        Some(place) => *place < right.len() && is_partner(one, &right[*place]),
-        None => false,
+        Some(place) => {
+            if *place < right.len() {
+                let is = is_partner(alloc, relation, one, &right[*place])?;
+                return Ok(is);
+            }
+            Ok(false)
+        }
+        None => Ok(false),
     }
 }
 
-/// Whether both cases have the same tree and require the same.
-fn is_partner(one: &Summary, other: &Summary) -> bool
-    ensures { IsTrue result → ArePartners (summary_record one.now) (summary_record other.now) }
+/// Whether both cases have the same tree, and require what the relation has.
+fn is_partner(
+    alloc: Global,
+    relation: Relation,
+    one: &Summary,
+    other: &Summary,
+) -> Result<bool, AllocError>
+    requires { ExtrasRise (summary_record one.now) }
+    ensures { IfOk result (λ is.
+        IsTrue is → ArePartners relation (summary_record one.now) (summary_record other.now)) }
 {
-    one.tree == other.tree && one.is_alike(other)
+    if one.tree != other.tree {
+        return Ok(false);
+    }
+    let fits = one.fits(alloc, relation, other)?;
+    Ok(fits)
 }
 
 /// The pairs of cases that may hold together, by their indices. `None` if there are very many such pairs.
@@ -224,7 +255,8 @@ fn first_other(
     ensures { IfOk result (FindsOther relation interner.now.nodes (summary_record one.now)
         (map summary_record right.now)) }
 {
-    if has_partner(places, one, right) {
+    let has = has_partner(alloc, relation, places, one, right)?;
+    if has {
         return Ok(None);
     }
     for other in right {
