@@ -31,7 +31,7 @@ use Rattle.reqtable_compare.specs.declared.sides.Same.TheVariants.{Yes, No}
 use Rattle.reqtable_compare.specs.declared.sides.SameError.{SameError}
 use Rattle.reqtable_compare.specs.declared.sides.SameError.TheVariants as errors
 use Rattle.reqtable_compare.specs.declared.sides.Side.TheVariants.{Left, Right}
-use Rattle.reqtable_compare.specs.Compared.{NoneTooMany, MayCompare, Compares, ComparesBy, PassesInAll, TablesSide}
+use Rattle.reqtable_compare.specs.Compared.{NoneTooMany, MayCompare, ComparesBy, PassesInAll, TablesSide}
 use Rattle.reqtable_compare.specs.Related.{Relates}
 use Rattle.reqtable_compare.specs.Relations.{Relate, RelateThroughout, IsFirstUnrelated}
 use Rattle.reqtable_compare.specs.Differences.{Listed, Sums, AgreeOn, IsFirstPlace, Place, IsBoth}

@@ -1,6 +1,6 @@
 -- A list or set is within another exactly where both together are the other, or the one.
-use Rattle.std.proofs.Common.{◌≡◌, ◌∙◌, ◌&&◌, ◌||◌, ◌↔◌, IsTrue, ℕ, Bool, true, false, List, [], ◌∷◌}
-use Rattle.std.proofs.Common.{inl, inr, refl, sym, ap, subst, true≢false}
+use Rattle.std.proofs.Common.{◌≡◌, ◌∙◌, ◌&&◌, ◌||◌, ◌↔◌, IsTrue, ℕ, Bool, true, false, List}
+use Rattle.std.proofs.Common.{inl, inr, refl, sym, ap, true≢false}
 use Rattle.std.specs.List.{list_any}
 use Rattle.std.specs.List.Sorted.{IsStrictlySortedBy}
 use Rattle.std.specs.Ordering.{nat_cmp}

@@ -1,6 +1,5 @@
 -- Lists that require the same cover each other, and covering is transitive.
-use Rattle.std.proofs.Common.{ℕ, List, [], ◌∷◌, sym}
-use Rattle.pep508_diagram.specs.Question.{Valuation}
+use Rattle.std.proofs.Common.{List, [], ◌∷◌, sym}
 use Rattle.pep508_requirement_text.specs.FrontReading.{Front}
 use Rattle.reqtable_requirements.specs.LineReading.{LineRecord}
 use Rattle.reqtable_cases.specs.Requires.{RequireAlike, RequireTheSame, asked_of}

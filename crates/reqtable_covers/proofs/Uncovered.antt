@@ -15,7 +15,6 @@ use Rattle.reqtable_requirements.specs.LineReading.{LineRecord}
 use Rattle.reqtable_requirements.specs.Requirements.{StandsFor}
 use Rattle.reqtable_requirements.specs.declared.requirements.Line.{Line}
 use Rattle.reqtable_cases.specs.Lines.{line_marks, numbers_of}
-use Rattle.reqtable_table.specs.Given.{is_under}
 use Rattle.reqtable_compare.specs.declared.sides.Relation.TheVariants as relations
 use Rattle.reqtable_compare.specs.Relations.{IsFirstUnrelated}
 use Rattle.reqtable_covers.specs.Applying.{applies_to, IsFixed, numbers_to, AreNumbersWhere}

@@ -1,5 +1,4 @@
-use Rattle.std.proofs.Common.{Ok, Err, subst, sym}
-use Rattle.pep508_tree.specs.Meaning.{IsTree}
+use Rattle.std.proofs.Common.{Ok, subst, sym}
 use Rattle.reqtable_requirements.specs.Asks.{AreOfNodes}
 use Rattle.reqtable_requirements.proofs.Lasting.{lines_kept, nodes_kept}
 use Rattle.reqtable_compare.specs.declared.sides.Relation.TheVariants as relations
