@@ -1,3 +1,3 @@
 pub mod Applied
 pub mod Uncovered
-pub mod Laws
+pub mod Through

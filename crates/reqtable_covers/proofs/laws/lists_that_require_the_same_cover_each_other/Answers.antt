@@ -1,4 +1,4 @@
-use Rattle.reqtable_covers.proofs.Laws.{same_covers, same_covered}
+use Rattle.reqtable_covers.proofs.Through.{same_covers, same_covered}
 use Rattle.reqtable_covers.proofs.laws.lists_that_require_the_same_cover_each_other.Goals as goal
 
 pub returns : goal.returns
