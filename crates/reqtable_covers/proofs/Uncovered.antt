@@ -22,11 +22,11 @@ use Rattle.reqtable_covers.specs.Covering.{IsFirstUncovered}
 
 -- ---- lines that apply together in two valuations
 
-first_mark : Marks → Bool
+abbrev first_mark : Marks → Bool
 first_mark [] = false
 first_mark (b ∷ marks) = b
 
-later_marks : Marks → Marks
+abbrev later_marks : Marks → Marks
 later_marks [] = []
 later_marks (b ∷ marks) = marks
 
@@ -115,7 +115,7 @@ module _ (vars : Variables) (nodes : List NodeRecord) (lines : List Line) (lock 
     uncovered = first.differ;
     first = first.first;
     before = first.before;
-    numbers = are (all_fixed vars nodes name tree lines said h (λ v w there there'.
+    told = are (all_fixed vars nodes name tree lines said h (λ v w there there'.
         set_there v there ∙ sym (set_there w there'))) first.somewhere.0 first.somewhere.1
         ∙ same_numbers vars nodes name tree first.somewhere.0 lines said h
         ∙ ap (λ marks. numbers_of marks (lines_of name said)) (set_there first.somewhere.0 first.somewhere.1);

@@ -40,7 +40,7 @@ pub record IsFirstUncovered (lock lines : List LineRecord) (nodes : List NodeRec
       IsCovered (asked_of name v lock) (asked_of name v lines)
   pub before : (other : List ℕ) (v : Valuation) → slice_cmp nat_cmp other name ≡ Less →
       IsCovered (asked_of other v lock) (asked_of other v lines)
-  pub numbers : numbers ≡ numbers_of pair.1 (lines_of name lines)
+  pub told : numbers ≡ numbers_of pair.1 (lines_of name lines)
 
 -- the result of asking whether a lock covers lines, with or without a bound on the cases of all packages:
 -- whether it does, and if not, the first package that it doesn't cover; lists are refused as where the
