@@ -5,10 +5,11 @@
 
 LIBRARY is tests/refuse.c as a shared library, which refuses a program the requests for memory that it is told. Each
 command is run with its first request refused, then with its second, and so on until a run asks no more often; and once
-more with all requests refused from each on. A run that met a refusal has to say so, by its status and the text of want
+more with all requests refused from each on. (One process of a command goes on from request to request, and is forked at
+each for the runs in which that is refused.) A run that met a refusal has to say so, by its status and the text of want
 of memory, and write nothing else; or it gives its whole answer after all, since a request may be made by the C library
 for itself. Where an input is refused and its text can't be made, the text of want of memory comes with the status of
-the refusal. The last run gives the answer with ample memory.
+the refusal. A run without a refusal gives the answer with ample memory, before the others and beside them.
 
 The commands are `reqs check` on each example and on lists that are refused, `reqs matrix`, `reqs same`, `reqs conflicts`
 and `reqs normal`, each of these asked for an object too, those of rows.py, the program's help, and the questions of
@@ -27,6 +28,7 @@ import json
 import multiprocessing
 import os
 import shutil
+import struct
 import subprocess
 import sys
 import tempfile
@@ -45,7 +47,9 @@ KEPT = ("keeps", "keeps table")
 # What is said where there is no memory and an object is asked for.
 NO_MEMORY = objects.line_of({"error": objects.object_of_fault("reqs: out of memory\n")}).encode()
 # Every request after the first that is refused.
-ALL = 2 ** 62
+ALL = 2 ** 64 - 1
+# How tests/refuse.c tells how a run ended: its first and last refused request, its status, and how much it wrote.
+ENDED = struct.Struct("=QQqQQ")
 # Packages and environments of which the requests are counted.
 FEW, MANY = 10, 40
 # A command that asks more often than this doesn't end.
@@ -107,6 +111,25 @@ def ran(library, words, folder, first, last):
             os.close(writes)
 
 
+def ran_at_each(library, words, folder):
+    """Runs a command with each of its requests refused, alone and with all after it, and with none: the first and the last
+    request that was refused, and how the run ended."""
+    with tempfile.TemporaryFile() as told:
+        refuse = {"REFUSE_EACH": str(told.fileno()), "REFUSE_LAST": str(MOST_REQUESTS)}
+        environment = {"LC_ALL": "C.UTF-8", "LD_PRELOAD": library, **refuse}
+        done = subprocess.run(words, cwd=folder, env=environment, stdin=subprocess.DEVNULL, capture_output=True,
+                              pass_fds=[told.fileno()], timeout=600)
+        told.seek(0)
+        said, at = told.read(), 0
+    if (done.returncode, done.stdout, done.stderr) != (0, b"", b""):
+        raise RuntimeError(f"{words}: the runs at each request ended with {done}")
+    while at < len(said):
+        first, last, status, output, errors = ENDED.unpack_from(said, at)
+        at += ENDED.size
+        yield first, last, (status, said[at : at + output], said[at + output : at + output + errors])
+        at += output + errors
+
+
 def try_command(library, kind, words, folder, wanted):
     """Tries a command with each of its requests refused. What is wanted is what it does with ample memory."""
     tally = Tally(kind)
@@ -120,25 +143,22 @@ def try_command(library, kind, words, folder, wanted):
     lacking, refused = [(status, b"", it) for it in texts], 0
     if wanted[0] == INPUT_REFUSED:
         lacking += [(INPUT_REFUSED, b"", it) for it in texts]
-    for number in range(1, MOST_REQUESTS):
-        is_met = False
-        for last in (number, ALL):
-            ended, is_met = ran(library, words, folder, number, last)
-            if not is_met:
-                break
-            tally.runs += 1
-            refused += ended in lacking
-            tally.harmless += ended == wanted
-            if ended not in (*lacking, wanted):
-                which = f"request {number} refused" + (", and all after it" if last == ALL else "")
-                tally.faults.append(f"{label}: {which}: {ended}")
-        if not is_met:
+    for first, last, ended in ran_at_each(library, words, folder):
+        if first == 0:
             if ended != wanted:
                 tally.faults.append(f"{label}: with no request refused: {ended}")
-            break
-        tally.requests = number
-    else:
+            continue
+        tally.requests = first
+        tally.runs += 1
+        refused += ended in lacking
+        tally.harmless += ended == wanted
+        if ended not in (*lacking, wanted):
+            which = f"request {first} refused" + (", and all after it" if last == ALL else "")
+            tally.faults.append(f"{label}: {which}: {ended}")
+    if tally.requests == MOST_REQUESTS:
         tally.faults.append(f"{label}: it still asks for memory after {MOST_REQUESTS} requests")
+    if tally.runs != 2 * tally.requests:
+        tally.faults.append(f"{label}: {tally.runs} runs for {tally.requests} requests")
     if refused == 0:
         tally.faults.append(f"{label}: no run told want of memory")
     if kind in map(kind_of, KEPT) and tally.harmless == 0:
