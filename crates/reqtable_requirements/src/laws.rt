@@ -123,3 +123,10 @@ pub fn lines_last_while_nodes_are_added()
         (said : List LineRecord) → Extends old new →
         AllZip (StandsFor vars old) lines said → AllZip (StandsFor vars new) lines said }
 {}
+
+/// Lines that stand for records have trees of the interner's nodes, which is what those who are given
+/// `Requirements` ask for.
+pub fn lines_that_were_read_are_of_the_nodes()
+    ensures { (vars : Variables) (nodes : List NodeRecord) (lines : List Line) (said : List LineRecord) →
+        AllZip (StandsFor vars nodes) lines said → AreOfNodes nodes lines }
+{}
