@@ -72,7 +72,14 @@ fn answers_among<F: Fn(&Version, bool) -> bool>(
     let mut runs = table.runs(alloc, &ordered)?;
     let mut answers = Vec::new(alloc);
     for environment in environments {
-        let answer = table.answer_among(alloc, interner, environment, extras, &mut runs, admission)?;
+        let answer = table.answer_among(
+            alloc,
+            interner,
+            environment,
+            extras,
+            &mut runs,
+            admission,
+        )?;
         answers.push(answer)?;
     }
     Ok(answers)
