@@ -56,6 +56,8 @@ _TOO_MANY_CASES = f"requirements: more than {LIMIT} cases for "
 _BETWEEN = re.compile(r"[ \t\n\r,]*")
 # What stands before the reason in the library's refusal of a line, of which a part may be told.
 _OF_LINE = re.compile(r"[a-z]+: line [0-9]+(?:(, byte [0-9]+, length [0-9]+)\n|: )")
+# The place of a difference that is in all environments.
+_EVERYWHERE = "all environments"
 
 
 class InvalidInput(Refused):
@@ -132,11 +134,15 @@ class Row:
 @dataclass(frozen=True)
 class Comparison:
     """Whether two lists require the same everywhere, in which case it is true; otherwise `package` is the
-    first package that differs, and `place` is where: a marker's text, or `all environments`, which is not
-    a marker."""
+    first package that differs, and `place` says where: a marker's text, or `all environments`."""
 
     package: Optional[str] = None
     place: Optional[str] = None
+
+    @property
+    def marker(self) -> Optional[str]:
+        """The marker of the first difference. None if it is in all environments, or if there is none."""
+        return None if self.place == _EVERYWHERE else self.place
 
     def __bool__(self) -> bool:
         return self.package is None

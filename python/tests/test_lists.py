@@ -155,6 +155,10 @@ class Answers(unittest.TestCase):
         answer = fowlyore.same(before, after)
         self.assertEqual((bool(answer), answer.package, answer.place), (False, "tomli", "python_full_version < '3.11'"))
         self.assertEqual(f"{answer}\n", (EXAMPLES / "lock" / "expected_same.txt").read_text())
+        self.assertEqual(answer.marker, answer.place)
+        everywhere = fowlyore.same("foo", "foo<1")
+        self.assertEqual((everywhere.place, everywhere.marker), ("all environments", None))
+        self.assertIsNone(fowlyore.same("foo", "foo").marker)
 
     def test_conflicts(self):
         found = fowlyore.conflicts(EXAMPLES / "apart" / "requirements.txt")

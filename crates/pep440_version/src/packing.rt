@@ -4,9 +4,9 @@
 //! 3 bits of the kind of the suffix and 21 bits of its number. Versions that have words compare as these do,
 //! which is one comparison of integers; most versions have one.
 //!
-//! A packed version has its suffix in the word alone. The release numbers stand beside either form, since
-//! `Version::release` lends them and `1.0` and `1.0.0` print differently, and so does the local part, though
-//! a packed version has none. So `with_post` and its kin change the form and take no memory, and a version
+//! A packed version has its suffix in the word alone. Both forms keep the release numbers, since
+//! `Version::release` borrows them and `1.0` and `1.0.0` print differently, and the local part, though a
+//! packed version has none. So `with_post` and its kin change the form and take no memory, and a version
 //! is 120 bytes, 8 more than in the full form alone; a word beside all parts would take 16.
 
 ghost use Rattle.std.specs.Prelude.{◌≡◌, ◌+◌, ◌==◌, ◌&&◌, not, map, if◌then◌else◌, [], ◌∷◌, Some, None};
@@ -43,7 +43,7 @@ pub(crate) enum Suffix {
     Max(u64),
 }
 
-/// What a version has beside its release and its local part.
+/// The parts of a version other than its release and its local part.
 #[derive(Drop)]
 pub(crate) enum Form {
     /// The word of a version that has one, with its suffix.

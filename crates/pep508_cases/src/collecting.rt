@@ -41,7 +41,8 @@ fn either(
     Ok(neither.negate())
 }
 
-/// Has the tree of the set at an index hold where this one does too. A tree that never holds is not kept.
+/// Extends the tree of the set at an index, which then also holds where this tree does. A tree that never
+/// holds is skipped.
 ///
 /// Comparing two sets takes as long as what they have in common, so a set is looked for once, unless it has a
 /// tree already.

@@ -13,8 +13,8 @@ use std::alloc::{AllocError, Global};
 use std::cmp::Ordering;
 use std::marker::Model;
 
-/// Which of some trees are in a set: for each member how many trees stand between it and the member before
-/// it, and how many stand behind the last.
+/// A set of some trees: for each member the number of trees between it and the member before it, and the
+/// number of trees after the last.
 #[derive(Drop)]
 pub struct TreeSet {
     gaps: Vec<usize>,
@@ -63,7 +63,7 @@ impl TreeSet {
         })
     }
 
-    /// Has the set be one of more trees: those of another set come behind its own.
+    /// Appends another set, whose trees come after those of this one.
     pub(crate) fn extend(&mut self, later: &TreeSet) -> Result<(), AllocError>
         requires { length self.old + length later.now ≤ usize.MAX }
         ensures { OnOk result (self.new ≡ self.old ++ later.now) }
@@ -132,8 +132,8 @@ fn cmp_gaps(gaps: &[usize], rest: usize, others: &[usize], other_rest: usize) ->
     }
 }
 
-/// Returns how a set whose next member stands behind so many trees compares with one that has only so many
-/// trees left, and none of them.
+/// Compares a set that has `gap` trees before its next member with one that has `rest` trees left and no
+/// further member.
 fn order_at_end(gap: usize, rest: usize) -> Ordering
     ensures { result ≡ end_cmp gap rest }
 {

@@ -29,7 +29,7 @@ pub(crate) struct Part {
     pub root: Child,
 }
 
-/// Returns what stands for a node.
+/// Returns the narrowed child of the node at an index.
 fn narrow_node(children: &[Child], leaves: Leaves, place: usize) -> Child
     ensures { result ≡ get_or children.now place (Leaf leaves.other) }
 {
@@ -39,7 +39,7 @@ fn narrow_node(children: &[Child], leaves: Leaves, place: usize) -> Child
     }
 }
 
-/// Returns what stands for a child, by what stands for nodes.
+/// Returns a child narrowed, by the narrowed children of the nodes.
 fn narrow_child(children: &[Child], leaves: Leaves, child: &Child) -> Child
     ensures { result ≡ narrow_of leaves children.now child.now }
 {

@@ -9,7 +9,7 @@
 //!
 //! A node is stored whole or not at all: room in the list first, then the map's entry, then the list, which
 //! cannot fail any more. A table that has more nodes than it may have takes no more, as if memory had run
-//! out, so that one node too many tells that the number didn't suffice. Bounds are put into their shortest
+//! out, so that one node too many shows that the bound was exceeded. Bounds are put into their shortest
 //! spelling here (`store`), whoever makes the node, so that no caller has to promise it. That takes one more
 //! list for each node of versions and copies no version.
 

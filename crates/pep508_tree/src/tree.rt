@@ -74,7 +74,7 @@ impl MarkerTree {
         self.negated
     }
 
-    /// Returns the tree, negated where `turns`.
+    /// Returns the negation of the tree if `turns`, otherwise the tree.
     pub fn turned(self, turns: bool) -> MarkerTree
         ensures { result ≡ turned turns self }
     {

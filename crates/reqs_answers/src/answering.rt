@@ -63,8 +63,8 @@ pub(crate) fn answers_text(
     Ok(run.text)
 }
 
-/// The number of pieces that the answers of so many packages for so many environments have at most, or the
-/// greatest number where they may have more.
+/// The most pieces that the answers for these numbers of packages and environments can have, or the greatest
+/// number on overflow.
 fn room_for(format: Format, packages: usize, environments: usize) -> usize {
     let rows = match format {
         Format::Text => packages,

@@ -64,7 +64,7 @@ fn comma_if(later: bool) -> &'static str
     if later { "," } else { "" }
 }
 
-/// Appends what stands behind the rows of an environment.
+/// Appends the text after the rows of an environment.
 pub(crate) fn put_foot(alloc: Global, format: Format, text: &mut Pieces) -> Result<(), AllocError>
     ensures whole { OnOk result (text.new.whole ≡ text.old.whole ++ foot format) }
     ensures grow { OnOk result (Grow text.old.texts text.new.texts) }
@@ -75,7 +75,7 @@ pub(crate) fn put_foot(alloc: Global, format: Format, text: &mut Pieces) -> Resu
     }
 }
 
-/// Appends what stands behind all environments.
+/// Appends the text after the last environment.
 pub(crate) fn put_closing(
     alloc: Global,
     format: Format,

@@ -39,7 +39,7 @@ use std::io::{Read, Write};
 /// The size of the output buffer, in bytes.
 const WAITING_BYTES: usize = 65_536;
 
-/// What is asked for besides the inputs.
+/// The options of a run.
 #[derive(Clone, Copy)]
 struct Request {
     limit: u64,

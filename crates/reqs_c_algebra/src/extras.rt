@@ -38,7 +38,7 @@ pub fn marker_simplify_extras(
     simplified(alloc, bytes, extras, bounds).reply(out)
 }
 
-/// How the call ends.
+/// Simplifies a marker under extras, and returns how the call ends.
 fn simplified(alloc: Global, bytes: &[u8], extras: &[u8], bounds: Bounds) -> Ended
     ensures { SimplifiedExtrasEnds bounds bytes.now extras.now (ending_of result) }
 {

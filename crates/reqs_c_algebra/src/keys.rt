@@ -28,7 +28,7 @@ pub fn marker_key(alloc: Global, bytes: &[u8], nodes: usize, out: &mut [u8]) -> 
     key(alloc, bytes, nodes).reply(out)
 }
 
-/// How the call ends.
+/// Makes the key of a marker, and returns how the call ends.
 fn key(alloc: Global, bytes: &[u8], nodes: usize) -> Ended
     ensures { KeyEnds nodes bytes.now (ending_of result) }
 {

@@ -25,7 +25,7 @@ pub fn marker_negated(alloc: Global, bytes: &[u8], bounds: Bounds, out: &mut [u8
     negated(alloc, bytes, bounds).reply(out)
 }
 
-/// How the call ends.
+/// Negates a marker, and returns how the call ends.
 fn negated(alloc: Global, bytes: &[u8], bounds: Bounds) -> Ended
     ensures { NegatedEnds bounds bytes.now (ending_of result) }
 {

@@ -37,7 +37,7 @@ pub fn markers_disjoint(
     disjoint(alloc, left, right, nodes).reply(out)
 }
 
-/// How the call ends.
+/// Decides whether two markers are disjoint, and returns how the call ends.
 fn disjoint(alloc: Global, left: &[u8], right: &[u8], nodes: usize) -> Ended
     ensures { DisjointEnds nodes left.now right.now (ending_of result) }
 {
@@ -68,7 +68,7 @@ pub fn marker_implies(
     implied(alloc, left, right, nodes).reply(out)
 }
 
-/// How the call ends.
+/// Decides whether a marker implies another, and returns how the call ends.
 fn implied(alloc: Global, left: &[u8], right: &[u8], nodes: usize) -> Ended
     ensures { ImpliesEnds nodes left.now right.now (ending_of result) }
 {

@@ -27,7 +27,7 @@ pub fn marker_truth(alloc: Global, bytes: &[u8], nodes: usize, out: &mut [u8]) -
     truth(alloc, bytes, nodes).reply(out)
 }
 
-/// How the call ends.
+/// Decides whether a marker always or never holds, and returns how the call ends.
 fn truth(alloc: Global, bytes: &[u8], nodes: usize) -> Ended
     ensures { TruthEnds nodes bytes.now (ending_of result) }
 {

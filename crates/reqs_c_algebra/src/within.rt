@@ -40,7 +40,7 @@ pub fn marker_simplify_python(
     simplified(alloc, bytes, lower, upper, bounds).reply(out)
 }
 
-/// How the call ends.
+/// Simplifies a marker within Python versions, and returns how the call ends.
 fn simplified(alloc: Global, bytes: &[u8], lower: &[u8], upper: &[u8], bounds: Bounds) -> Ended
     ensures { SimplifiedPythonEnds bounds bytes.now lower.now upper.now (ending_of result) }
 {

@@ -41,7 +41,7 @@ pub fn markers_hold(
     held(alloc, markers, environment, extras).reply(out)
 }
 
-/// How the call ends.
+/// Evaluates markers in an environment with extras, and returns how the call ends.
 fn held(alloc: Global, markers: &[u8], environment: &[u8], extras: &[u8]) -> Ended
     ensures { HoldEnds markers.now environment.now extras.now (ending_of result) }
 {

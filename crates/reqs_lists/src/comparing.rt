@@ -244,7 +244,7 @@ fn same_value(alloc: Global) -> Result<Value, AllocError>
     json!(in alloc; {"same": true})
 }
 
-/// The text of a difference in a format, whose tree has at most so many clauses.
+/// The text of a difference in a format, whose marker has at most `most` clauses.
 #[tactic(auto, using(crate::proofs::Trees::canonical, crate::proofs::Trees::short))]
 fn difference_within(
     alloc: Global,

@@ -4,8 +4,8 @@
 //! and each other environment takes four bytes for it, or eight with a separator: 1,000 environments take
 //! little more memory than one. Room for these is reserved at once, one place for each environment and
 //! package, or two, since a list that doubles is in memory twice for a moment and up to half empty; room that
-//! is never written takes none of the system's memory. Where so much is refused the list grows as it must,
-//! so many packages that mostly do not apply are answered all the same.
+//! is never written takes none of the system's memory. If that reservation is refused, the list grows on
+//! demand, so many packages that mostly do not apply are still answered.
 
 ghost use Rattle.std.specs.Prelude.{◌≡◌, ◌≤◌, ◌+◌, List, [], IfOk, OnOk};
 ghost use Rattle.std.specs.List.{AllZip, AllByRecursion};

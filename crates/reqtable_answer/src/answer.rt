@@ -101,7 +101,7 @@ impl Answer {
         self.text_among(alloc, candidates.items())
     }
 
-    /// The rows as lines of text, as `text` has them, for candidates that stand in a slice.
+    /// The rows as lines of text, as `text` returns them; they index the slice `candidates`.
     ///
     /// # Errors
     ///

@@ -25,7 +25,7 @@ const FEW: usize = 4;
 /// Up to this many comparisons of cases take less time than a diagram.
 const MANY: usize = 65_536;
 
-/// At most so many pairs are listed, for each case of both sides.
+/// At most this many pairs are listed per case of both sides.
 const LISTED: u64 = 16;
 
 /// The indices of one side's cases, by their trees.

@@ -83,7 +83,7 @@ pub fn normal_within(
     normal_text(alloc, requirements, interner, Some(most_clauses))
 }
 
-/// The normal text of a list whose markers have at most so many clauses, if there is a bound.
+/// The normal text of a list; with a bound, each of its markers has at most that many clauses.
 fn normal_text(
     alloc: Global,
     requirements: &Requirements,

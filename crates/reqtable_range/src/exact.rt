@@ -47,7 +47,7 @@ fn is_implied(
     }
 }
 
-/// Whether both are `===` and of one text, so that each version that the one accepts is accepted by the other.
+/// Whether both are `===` and of one text, so that each accepts the versions that the other accepts.
 fn is_of_same_text(
     alloc: Global,
     one: &VersionSpecifier,

@@ -77,8 +77,8 @@ impl<'a> OneRange<'a> {
 
 /// The ranges of the lists, and the specifiers that no range decides.
 ///
-/// Needs O(n log n) comparisons of versions for n specifiers, and memory for the bounds, for references to the
-/// specifiers and for prints of two versions.
+/// Needs O(n log n) comparisons of versions for n specifiers, and memory for the bounds, for references to
+/// the specifiers and for prints of two versions.
 ///
 /// # Errors
 ///

@@ -3,9 +3,9 @@
 //! The greatest candidate is searched for with the case's range, once for all environments of the case.
 //! Candidates are sorted from the greatest version down; after one that the range does not hold the search
 //! goes on at the next interval below, which both binary searches find: that version's place among the
-//! boundaries, and the end of the gap among the candidates. So there are no more turns than candidates or
-//! intervals. Within an interval each candidate is tested, since the admission test may refuse it. Without
-//! a range each is.
+//! boundaries, and the end of the gap among the candidates. So there are no more iterations than candidates
+//! or intervals. Within an interval each candidate is tested, since the admission test may refuse it.
+//! Without a range each is.
 
 ghost use Rattle.std.specs.Prelude.{◌≡◌, ◌≤◌, ◌<◌, ◌+◌, length, map, filter, get_or, IfOk};
 ghost use Rattle.std.specs.List.{AllWithin};
