@@ -1,5 +1,6 @@
 #!/usr/bin/env python3
-"""Measures `reqs check` beside a native program on lists of many shapes, each with its targets.
+"""Measures `reqs check` beside a native program on lists of many shapes, each with its targets; then beside Python's
+packaging, and `reqs matrix` beside `reqs check`.
 
     beside.py [PROGRAM] --native PATH [--only SHAPE,..] [--runs N] [--instructions] [--write [--native-is TEXT]]
 
@@ -9,7 +10,7 @@ PROGRAM is crates/reqs_cli/out/reqs_cli where none is named (`./build` makes it)
     plain-N, full-N     the workload of workload.py with N candidates and a tenth as many lines
     packages, shuffled  900,000 lines `pK==1.0`, each of a package of its own, and as many candidates, in order or not
     one-package         20,000 lines `pip!=K.5` of one package, and 20,000 candidates that rise
-    one-line            the same specifiers in one line
+    one-line            160,000 such specifiers in one line; the native program is run once
     equal               100,000 candidates `pip 1.0`
     crlf, comments      plain-100000 with CRLF, or with a comment, at the end of each line
     versions, texts, extras, both, real
@@ -17,10 +18,16 @@ PROGRAM is crates/reqs_cli/out/reqs_cli where none is named (`./build` makes it)
                         extra; or one of those of workload.py
     posts, locals       n lines `pip<N.post1`, or `pip!=K.5+cpu`, and n candidates that rise: 16,000 may take at most six
                         times as long as 4,000, natively or not
+    packaging-plain, packaging-full
+                        plain-100000 and full-100000 beside packaging, the one that packaging_check.py finds
+    matrix-1, matrix-1000
+                        `matrix` in so many environments, of 1,000 lines and 10,000 candidates, beside as many `check`, of
+                        which at most 20 are run; the peak beside that of one
 
-Times are the least wall times of several runs of the whole process, peaks the most memory that one held; instructions are
-those that `valgrind --tool=callgrind` counts. The exit status is 1 where other rows are printed, or a target is missed.
-With `--write` the table goes to bench/README.md, where the rows are right.
+Times are the least wall times of several runs of the whole process, of `matrix` processor times, peaks the most memory that
+one held; instructions are those that `valgrind --tool=callgrind` counts, of the shapes that take under a second natively. The
+exit status is 1 where other rows are printed, or a target is missed. With `--write` the table goes to bench/README.md, where
+the rows are right.
 """
 
 import argparse
@@ -37,14 +44,20 @@ HERE = os.path.dirname(os.path.abspath(__file__))
 sys.dont_write_bytecode = True
 sys.path.insert(0, HERE)
 import figures
-from run import peak, timed
+import matrix
+from run import PACKAGING, peak, timed
 from workload import ENVIRONMENT, MARKERS, make_workload
 
-PACKAGES, ONE, MARKED, EQUAL, SEED = 900_000, 20_000, 20_000, 100_000, 7
+PACKAGES, ONE, MEMBERS, MARKED, EQUAL, SEED = 900_000, 20_000, 160_000, 20_000, 100_000, 7
 # Two sizes of a shape, and how many times as long the greater may take.
 SIZES, TIMES = (4_000, 16_000), 6
 # A shape's targets: how many times the native time, and the native peak, it may take.
 PLAIN, FULL, MANY, SINGLE, EVEN, OWN = (0.75, 0.8), (0.85, 0.8), (0.8, 0.8), (0.05, 1.0), (1.0, 1.0), (0.8, 1.0)
+# The same beside packaging, and of `matrix` beside as many `check`, by the number of environments.
+BESIDE_PACKAGING, MATRIX = (0.04, 0.2), {1: (1.3, 2.0), 1_000: (0.02, 2.0)}
+# The shapes that take so long natively that they are run once, and those whose instructions aren't counted.
+ONCE = {"one-line"}
+UNCOUNTED = {*ONCE, "one-package", "packages", "shuffled", "plain-700000", "full-700000"}
 BEGIN, END = "<!-- bench/beside.py -->\n", "<!-- end -->\n"
 
 
@@ -63,10 +76,10 @@ def packages(shuffled):
     return requirements, "".join(f"p{it} 1.0\n" for it in numbers)
 
 
-def one_package(specifier, version, number, joint="\npip"):
+def one_package(specifier, version, number, joint="\npip", candidates=None):
     members = [specifier.format(it) for it in range(number)]
     random.Random(SEED).shuffle(members)
-    return f"pip{joint.join(members)}\n", "".join(f"pip {version.format(it)}\n" for it in range(number))
+    return f"pip{joint.join(members)}\n", "".join(f"pip {version.format(it)}\n" for it in range(candidates or number))
 
 
 def marked(marker):
@@ -84,7 +97,7 @@ SHAPES = {
     "packages": (lambda: packages(False), MANY),
     "shuffled": (lambda: packages(True), (0.9, 0.8)),
     "one-package": (lambda: one_package("!={}.5", "{}.0", ONE), SINGLE),
-    "one-line": (lambda: one_package("!={}.5", "{}.0", ONE, ","), SINGLE),
+    "one-line": (lambda: one_package("!={}.5", "{}.0", MEMBERS, ",", ONE), SINGLE),
     "equal": (lambda: ("pip>=1\n", "pip 1.0\n" * EQUAL), EVEN),
     "crlf": (lambda: workload(100_000, line_end="\r\n"), EVEN),
     "comments": (lambda: workload(100_000, line_end="  # a comment\n"), EVEN),
@@ -98,6 +111,8 @@ GROWING = {
     "posts": lambda number: one_package("<{}.post1", "{}.0", number),
     "locals": lambda number: one_package("!={}.5+cpu", "{}.5.1+cpu", number),
 }
+OF_PACKAGING = {"packaging-plain": "plain-100000", "packaging-full": "full-100000"}
+OF_MATRIX = {f"matrix-{it}": it for it in MATRIX}
 
 
 def write_inputs(folder, requirements, candidates):
@@ -133,14 +148,41 @@ def pair(ours, native, target, form):
 
 def beside(name, heads, words, folder):
     """A shape's row of the table, whether the same rows are printed, and whether a target is missed."""
-    make, (most_time, most_memory) = SHAPES[name]
-    inputs = write_inputs(folder, *make())
+    make, target = SHAPES[name]
+    runs = words.runs, 1 if name in ONCE else words.runs
+    return compared(name, heads, runs, write_inputs(folder, *make()), target, words, folder)
+
+
+def compared(name, heads, runs, inputs, target, words, folder):
+    """The same of two programs and their runs, on some inputs."""
     commands = [[*it, *inputs] for it in heads]
-    runs = [least(it, folder, words.runs) for it in commands]
-    cells = [pair(runs[0][0], runs[1][0], most_time, ",.1f")]
-    cells += [pair(*(instructions(it) for it in commands), most_time, ",.0f")] if words.instructions else []
-    cells += [pair(*(peak(it) / 1024 for it in commands), most_memory, ",.1f")]
-    return f"| {name} | {' | '.join(it for it, _ in cells)} |", runs[0][1] == runs[1][1], any(missed for _, missed in cells)
+    walls, said = zip(*(least(command, folder, count) for command, count in zip(commands, runs)))
+    cells = [pair(*walls, target[0], ",.1f")]
+    if words.instructions:
+        is_counted = name in SHAPES and name not in UNCOUNTED
+        cells += [pair(*map(instructions, commands), target[0], ",.0f") if is_counted else (" | ", False)]
+    cells += [pair(*(peak(it) / 1024 for it in commands), target[1], ",.1f")]
+    return f"| {name} | {' | '.join(it for it, _ in cells)} |", len({*said}) == 1, any(missed for _, missed in cells)
+
+
+def beside_packaging(name, heads, words, folder):
+    """The same beside packaging, which takes seconds."""
+    inputs = write_inputs(folder, *SHAPES[OF_PACKAGING[name]][0]())
+    runs = words.runs, max(1, words.runs // 5)
+    return compared(name, [heads[0], PACKAGING], runs, inputs, BESIDE_PACKAGING, words, folder)
+
+
+def of_matrix(name, _heads, words, folder):
+    """The same of `matrix` beside as many `check`."""
+    count = OF_MATRIX[name]
+    workload = matrix.many_packages(count, SEED, False)
+    found = matrix.Measured(workload, workload.write(folder), words)
+    found.run_matrix()
+    found.run_check()
+    cells = [pair(found.matrix * 1e3, found.check * 1e3, MATRIX[count][0], ",.1f")]
+    cells += [(" | ", False)] if words.instructions else []
+    cells += [pair(found.peak / 1024, found.check_peak / 1024, MATRIX[count][1], ",.1f")]
+    return f"| {name} | {' | '.join(it for it, _ in cells)} |", not found.differs, any(missed for _, missed in cells)
 
 
 def growing(name, heads, words, folder):
@@ -159,9 +201,15 @@ def write(lines, words):
     with open(path, encoding="utf-8") as file:
         before, _, rest = file.read().partition(BEGIN)
     _, _, after = rest.partition(END)
-    told = f"{figures.version_of(words.program)}, {time.strftime('%Y-%m-%d', time.gmtime())}, native: {words.native_is}\n\n"
+    which = subprocess.run([*PACKAGING, "--which"], stdout=subprocess.PIPE, text=True, check=True).stdout.strip()
+    told = f"{figures.version_of(words.program)}, {time.strftime('%Y-%m-%d', time.gmtime())}; native: {words.native_is}; {which}\n\n"
     with open(path, "w", encoding="utf-8") as file:
         file.write(f"{before}{BEGIN}{told}" + "".join(f"{it}\n" for it in lines) + f"{END}{after}")
+
+
+# By the name of a shape what measures it.
+KINDS = {**dict.fromkeys(SHAPES, beside), **dict.fromkeys(GROWING, growing), **dict.fromkeys(OF_PACKAGING, beside_packaging),
+         **dict.fromkeys(OF_MATRIX, of_matrix)}
 
 
 def read_words():
@@ -169,7 +217,7 @@ def read_words():
     program = os.path.join(HERE, "..", "crates", "reqs_cli", "out", "reqs_cli")
     words.add_argument("program", nargs="?", default=os.path.normpath(program))
     words.add_argument("--native", metavar="PATH", required=True)
-    words.add_argument("--only", metavar="SHAPE,..", default=",".join([*SHAPES, *GROWING]))
+    words.add_argument("--only", metavar="SHAPE,..", default=",".join(KINDS))
     words.add_argument("--runs", metavar="N", type=int, default=15)
     words.add_argument("--instructions", action="store_true")
     return figures.read_words(words)
@@ -184,7 +232,7 @@ def main():
     differs = misses = False
     for name in words.only.split(","):
         with tempfile.TemporaryDirectory(prefix="reqs-bench-") as folder:
-            line, is_same, is_missed = (beside if name in SHAPES else growing)(name, heads, words, folder)
+            line, is_same, is_missed = KINDS[name](name, heads, words, folder)
         lines.append(line)
         differs, misses = differs or not is_same, misses or is_missed
         print(line + ("" if is_same else " OTHER ROWS"), flush=True)

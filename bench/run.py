@@ -164,8 +164,7 @@ def main():
             others.update(print_rows(size, found[size], rows))
     if others:
         print("\nThe programs do not print the same rows.")
-    # (of lines of every kind a native program over upstream's own code takes other candidates: bench/README.md)
-    if words.write and others <= ({"native"} if words.full else set()):
+    if words.write and not others:
         write(words, found, which)
     return 1 if others else 0
 
