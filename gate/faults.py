@@ -64,13 +64,21 @@ MUTANTS, FIGURES = ["gate/mutants.py", "--listed"], ["bench/figures.py", "--chec
 FILES, VERSIONS = ["tools/files.py", "--check"], ["gate/versions.py"]
 PACK = [*PROVE, "--program", "reqs_c"]
 DOCUMENTED = ["tests/documented.py", os.path.join(TOP, "crates", "reqs_cli", "out", "reqs_cli")]
-# The parts that prove nothing, and leave nothing in the tree.
-TEXTS = (HELD, MUTANTS, NAMES, LENT, CONSTANTS, FITS, FIGURES, FILES, VERSIONS, DOCUMENTED)
+SIZES = ["tests/sizes.py", "reqs", "packages"]
+# The parts that prove nothing, and leave nothing in the tree but what they take from the store.
+TEXTS = (HELD, MUTANTS, NAMES, LENT, CONSTANTS, FITS, FIGURES, FILES, VERSIONS, DOCUMENTED, SIZES)
 PYTHON_TESTS = "python/tests/test_specifiers.py"
 SPECIFIERS = "crates/reqs_c_versions/specs/Specifiers.antt"
 UNNOTICED = "reqs_c_versions.Specifiers.AreTaken: drop field is_list ="
 LOW = "crates/underline"
 LAST_USE = "use unicode_width::UnicodeWidthChar;\n"
+# A launcher by which `same` is without memory where a list has more than five lines.
+GIVES_UP = """if [ "$1" = same ] && [ "$(wc -l <"$2")" -gt 5 ]; then
+    echo "reqs: out of memory" >&2
+    exit 3
+fi
+exec -a reqs "$program" "$@"
+"""
 FAILING = "a_letter_takes_two_columns"
 FAILING_TEST = f"""
 #[cfg(test)]
@@ -144,6 +152,9 @@ FAULTS = [
     Fault("a crate of another version", None, VERSIONS, "rust/fowlyore/Cargo.toml", '\nversion = "', '\nversion = "1'),
     Fault("a library for C that isn't packed", "reqs_c", PACK, "tools/pack.sh", "set -eu\n", "exit 1\n"),
     Fault("no edits", None, FITS, "tests/wrong/gate.txt", "", ""),
+    Fault("an edit of gate.txt that is deleted", None, FITS, "tests/wrong/underline/marks_are_the_blanks.edit", "", None),
+    Fault("what isn't tried and isn't told", None, NAMES, "tests/python.sh", 'echo "not tried: the types', 'true "not tried: the types'),
+    Fault("a program that gives up at more than five packages", None, SIZES, "reqs", 'exec -a reqs "$program" "$@"\n', GIVES_UP),
 ]
 
 

@@ -27,6 +27,7 @@ from concurrent.futures import ThreadPoolExecutor
 
 import accept
 import keys
+import seen
 import verdicts
 from crates import TOP, Crates, toolchain_sum
 from faults import FIT, OF_PROOFS, OF_TEXTS, groups_of
@@ -53,17 +54,18 @@ OF_C = ("c", "c.py", "c.sh", "calls.py", "fuzz.py", "objects.py", "refuse.c", "r
 
 class Part:
     """A part of the gate: its name, its words, the programs and files that its verdict rests on, if it is kept, programs that
-    it runs besides, and how many lines it closes with."""
+    it runs besides, and how many lines it closes with. Of programs that it `sees` the verdict rests on the contracts below
+    alone (seen.py). One that `fills` gives way to others, since none waits for it."""
 
-    def __init__(self, name, words, programs=(), rests_on=(), runs=(), closings=1):
+    def __init__(self, name, words, programs=(), rests_on=(), runs=(), closings=1, sees=(), fills=False):
         self.name, self.words, self.programs, self.rests_on, self.closings = name, words, programs, rests_on, closings
-        self.runs = {*programs, *runs}
+        self.runs, self.sees, self.fills = {*programs, *runs}, sees, fills
 
     def entry(self, crates):
         """The name of its verdict in the store, or None where it is tried each time."""
         if not self.rests_on:
             return None
-        programs = [keys.of_proof(crates, it) for it in self.programs]
+        programs = [*(keys.of_proof(crates, it) for it in self.programs), *(seen.by(crates, it) for it in self.sees)]
         return f"{keys.summed((self.name, toolchain_sum(), programs, verdicts.of_part(self.words, self.rests_on)))}.part"
 
     def missing(self):
@@ -85,6 +87,7 @@ def parts(more):
                   "tests/counted.sh", "tests/release.sh")
     of_deb = (*of_pack, "docs/C.md", "docs/COMMANDS.md", "install", "rust/fowlyore/README.md", "share", "tests/counted.sh",
               "tests/deb.sh")
+    of_rust = (*of_c, *licences, "rust", "tests/rust.sh", "tests/rust")
     of_index = ("bench/workload.py", "build", "gate/prove.py", "examples/index", "python", "tests/index.py", "tools")
     asked = [f"crates/{QUESTIONS}/{it}" for it in ("data", "stdout")]
     return [
@@ -103,35 +106,36 @@ def parts(more):
         Part("one version", [*python, "gate/versions.py"]),
     ], Part("proofs and wrong edits", [*python, "gate/together.py", *more], closings=2), [
         Part("command line", ["bash", "tests/cli.sh"], ["reqs_cli"], [*of_reqs, "README.md", "docs"]),
-        Part("answers compared", [*python, "tests/alike.py", "1000"], ["reqs_cli"], of_reqs),
-        Part("lists compared", [*python, "tests/pairs.py", "500"], ["reqs_cli"], of_reqs),
+        Part("answers compared", [*python, "tests/alike.py", "1000"], ["reqs_cli"], of_reqs, fills=True),
+        Part("lists compared", [*python, "tests/pairs.py", "500"], ["reqs_cli"], of_reqs, fills=True),
         Part("each marker once", [*python, "tests/once.py"], ["reqs_cli"], of_reqs),
         Part("a first answer", ["bash", "tests/try.sh"], [], of_try),
         Part("installing", ["bash", "tests/install.sh"], ["reqs_cli"], of_reqs),
-        Part("refused memory", ["bash", "tests/refused.sh"], ["reqs_cli", QUESTIONS], [*of_reqs, *asked]),
+        Part("refused memory", ["bash", "tests/refused.sh"], ["reqs_cli", QUESTIONS], [*of_reqs, *asked], fills=True),
         Part("library for C", ["bash", "tests/c.sh"], ["reqs_c"], [*of_c, "examples", *(f"tests/{it}" for it in OF_C)]),
-        Part("Python package", ["bash", "tests/python.sh"], ["reqs_c"], of_python),
-        # (that the library's answers are right the newest says)
-        Part("older Pythons", ["bash", "tests/python.sh", "--older"], [], [*of_python, "crates/reqs_c/src"], ["reqs_c"]),
+        Part("Python package", ["bash", "tests/python.sh"], ["reqs_c"], of_python, fills=True),
+        # (that answers are right the parts above say of each program)
+        Part("older Pythons", ["bash", "tests/python.sh", "--older"], [], of_python, ["reqs_c"], sees=("reqs_c",), fills=True),
         Part("lists in pieces", [*python, "tests/index.py"], ["reqs_c", "reqs_cli"], of_index),
         Part("Debian package", ["bash", "tests/deb.sh"], ["reqs_c", "reqs_cli"], of_deb),
-        Part("release", ["bash", "tests/release.sh"], ["reqs_c", "reqs_cli"], of_release),
-        Part("Rust crate", ["bash", "tests/rust.sh"], ["reqs_c"], [*of_c, *licences, "rust", "tests/rust.sh", "tests/rust"]),
-        Part("faults in texts", [*python, "gate/faults.py", OF_TEXTS], ["reqs_cli"], of_faults(OF_TEXTS)),
+        Part("release", ["bash", "tests/release.sh"], [], of_release, ["reqs_c", "reqs_cli"], sees=("reqs_c", "reqs_cli")),
+        Part("Rust crate", ["bash", "tests/rust.sh"], [], of_rust, ["reqs_c"], sees=("reqs_c",)),
+        Part("faults in texts", [*python, "gate/faults.py", OF_TEXTS], [], of_faults(OF_TEXTS), ["reqs_cli"]),
         Part("faults in proofs", [*python, "gate/faults.py", OF_PROOFS], ["underline"], of_faults(OF_PROOFS)),
     ]
 
 
 def of_faults(kind):
     """What the verdict rests on that the gate fails at each fault of a kind."""
-    return ["gate", *sorted({it.path for group in groups_of(kind) for it in group})]
+    faults = [it for group in groups_of(kind) for it in group]
+    return ["gate", *sorted({it.path for it in faults} | {it.words[0] for it in faults})]
 
 
 def run(part, show):
     """Runs a part and shows what it says. Returns what passed and failed, and what was left out, a sentence each."""
     said = []
     how = {"stdin": subprocess.DEVNULL, "stdout": subprocess.PIPE, "stderr": subprocess.STDOUT, "errors": "replace"}
-    with subprocess.Popen(part.words, cwd=TOP, **how) as ran:
+    with subprocess.Popen([*(["nice"] if part.fills else []), *part.words], cwd=TOP, **how) as ran:
         for line in ran.stdout:
             said.append(line)
             show(f"    {line}")

@@ -12,6 +12,7 @@ those crates has no use for it. Comments, texts and clauses don't count. The las
 each.
 """
 
+import functools
 import os
 import re
 import sys
@@ -34,6 +35,7 @@ LENT = {
 PASSED_ON = re.compile(r"\bpub use ([^;]+);")
 
 
+@functools.lru_cache(maxsize=None)
 def sources(crate):
     """The code of a crate's sources, by their places in it."""
     found = {}

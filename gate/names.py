@@ -4,8 +4,8 @@
     names.py
 
 The list has each `#[test]` of the crates and of rust/, each test of python/tests, each check of tests/ that has a name, each
-stored run, each part of the gate and each fault that it plants; of examples in documentation how many a file has. One
-that is new or gone fails; `./test --accept NAME..` takes it. assertions.py says what a test has to assert.
+word on what isn't tried, each stored run, each part of the gate and each fault that it plants; of examples in documentation
+how many a file has. One that is new or gone fails; `./test --accept NAME..` takes it. assertions.py says what a test has to assert.
 The last line is `N passed, M failed`, a name each.
 """
 
@@ -25,6 +25,8 @@ HEAD = "Each test by its name, and of examples how many there are: docs/GATE.md.
 TEST = re.compile(r"#\[test\]\s*(?:#\[[^\]]*\]\s*)*(?:pub )?fn (\w+)")
 # How a shell script makes a check, and what a call of Python that makes one is named.
 CHECK = re.compile(r"""^\s*(?:wants|holds|judge) (?:"((?:\\.|[^"\\])*)"|'([^']*)')""", re.M)
+# How one says that it leaves something out for want of what the machine lacks.
+NOT_TRIED = re.compile(r"""^[^#\n]*\becho "((?:not tried|\w+\.sh: left out): (?:\\.|[^"\\])*)\"""", re.M)
 CALLS = ("wants", "holds", "Part", "Fault", "Tried")
 RUNS = ("runs", "worked", "matrix", "lists")
 
@@ -77,6 +79,8 @@ def checks():
     for path, text in texts("tests/*.sh"):
         for it in CHECK.finditer(text):
             yield f"{path}: {it[1] or it[2]}", f"{path}:{line_of(text, it.start())}"
+        for it in NOT_TRIED.finditer(text):
+            yield f"{path}: {it[1].strip()}", f"{path}:{line_of(text, it.start())}"
     for path, text in texts("tests/**/*.py", "gate/gate.py", "gate/faults.py", "gate/store_faults.py"):
         for it in ast.walk(ast.parse(text)):
             name = it.func if isinstance(it, ast.Call) else None

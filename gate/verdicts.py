@@ -17,7 +17,8 @@ from crates import TOP, sum_of_files
 from keys import OF_KEPT, scripts_sum, summed
 
 OF_EDITS = (*OF_KEPT, *(f"gate/{it}.py" for it in ("around", "clauses", "edits", "seen", "wrong")))
-OF_PARTS = ("gate/crates.py", "gate/gate.py", "gate/keys.py", "gate/store.py", "gate/verdicts.py")
+OF_PARTS = ("gate/crates.py", "gate/gate.py", "gate/keys.py", "gate/store.py", "gate/verdicts.py",
+            "gate/clauses.py", "gate/seen.py", "gate/statements.py")
 # What the parts that run programs call.
 TOOLS = ("ar", "bash", "cargo", "cc", "dpkg", "dpkg-deb", "ld", "mypy", "nm", "objcopy", "rustc", "strip", "valgrind")
 MODULES = "import sys; print(sys.version)", "import pip; print(pip.__version__)", "import distributed; print(distributed.__version__)"

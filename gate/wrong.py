@@ -284,7 +284,9 @@ class Trial:
         made = {}
         for crate in {it.crate.name: it.crate for it in edits}.values():
             for check in self.checks_of([it for it in edits if it.crate is crate]):
-                seconds = SECONDS + self.prover.loading(crate.name) + SECONDS_AN_EDIT * len(check[3])
+                count = len(check[3])
+                # (of many edits most are of functions that stand on little)
+                seconds = SECONDS + self.prover.loading(crate.name) + SECONDS_AN_EDIT * min(count, 4) + 3 * max(count - 4, 0)
                 call = lambda _given, _jobs, check=check: self.run_check(*check)
                 made[crate.name, "edits", len(made)] = Task(waits_of(crate), seconds, crate.memory(), call, most_jobs=1)
         self.checks, self.tried = len(made), len(edits)

@@ -33,6 +33,15 @@ fi
 work=$(mktemp -d) || exit 1
 trap 'rm -rf "$work"' EXIT
 cd "$work" || exit 1
+# (these take longest, so they are begun first)
+scripts=(sizes ends numerals objects runs documented)
+if command -v python3 >/dev/null; then
+    ran=$(mktemp -d -p "$work") || exit 1
+    for it in "${scripts[@]}"; do
+        python3 "$top/tests/$it.py" "$program" >"$ran/$it" 2>&1 </dev/null &
+        begun+=($!)
+    done
+fi
 
 # run WORDS..: runs the program; its outputs go to the files `out` and `err`, its status to `status`.
 run() {
@@ -823,9 +832,8 @@ wants "an unknown option" 2 "" SOMETHING
 # The stored runs, the same runs asked for objects, the command lines of the documents, inputs of each size, numbers at
 # their end, and readers and writers that fail.
 stored() {
-    python3 "$top/tests/$1.py" "$program" >runs.out
-    grep -v "^$1: " runs.out
-    line=$(grep -E "^$1: [0-9]+ passed, [0-9]+ failed\$" runs.out | tail -n 1)
+    grep -v "^$1: " "$ran/$1"
+    line=$(grep -E "^$1: [0-9]+ passed, [0-9]+ failed\$" "$ran/$1" | tail -n 1)
     if [ -n "$line" ]; then
         line=${line#"$1: "}
         good=${line%% passed*}
@@ -838,12 +846,10 @@ stored() {
     fi
 }
 if command -v python3 >/dev/null; then
-    stored runs
-    stored objects
-    stored documented
-    stored sizes
-    stored numerals
-    stored ends
+    wait "${begun[@]}"
+    for it in "${scripts[@]}"; do
+        stored "$it"
+    done
 else
     failed=$((failed + 1))
     echo "FAILED: python3 is not on the PATH, and the stored runs need it"

@@ -101,7 +101,8 @@ if [ "$older" ]; then
     asked=("${!interpreters[@]}")
 fi
 
-# All but the newest by the extension try fewer random texts, unless a number is given. The files that take longest come first.
+# Fewer random texts are tried, unless a number is given, but for one run by the newest beside the older ones. The files
+# that take longest come first.
 processors=$(nproc)
 files=(test_extension test_command test_processes test_properties test_lists)
 for file in "$top"/python/tests/test_*.py; do
@@ -112,13 +113,16 @@ for version in "${asked[@]}"; do
     way=$extension
     [ "${version#*.}" -ge 10 ] || way=no
     few=${FOWLYORE_RANDOM-1000}
-    [ "$version" != "$newest" ] || few=${FOWLYORE_RANDOM-}
     begin_tests "$version" "${interpreters[$version]}" "$way" "$few"
 done
 runs=("${asked[@]}")
-if [ "$extension" != no ] && [ "$older" ]; then
-    runs+=("$newest by ctypes")
-    begin_tests "$newest by ctypes" "$python" no "${FOWLYORE_RANDOM-1000}"
+if [ "$older" ]; then
+    runs+=("$newest on more texts")
+    begin_tests "$newest on more texts" "$python" "$extension" "${FOWLYORE_RANDOM-}"
+    if [ "$extension" != no ]; then
+        runs+=("$newest by ctypes")
+        begin_tests "$newest by ctypes" "$python" no "${FOWLYORE_RANDOM-1000}"
+    fi
 fi
 wait
 

@@ -1,12 +1,13 @@
 #!/usr/bin/env python3
 """Asks every command at sizes from none to past each constant of the code, with ample memory.
 
-    sizes.py PROGRAM
+    sizes.py PROGRAM [KIND..]
 
 No contract says when memory may run out, so that a body could give up at more than some number of pieces. Here each kind of
 piece stands in each number of NUMBERS, and the answer has to be the one that is made here beside it: packages, lines of a
 package, specifiers of a line, extras of a line and on the command line, comparisons of a marker, cases of a package,
-candidates, environments. The last line is `sizes: N passed, M failed`; tests/least.txt says how many there are at least.
+candidates, environments; or only those that are named, as `packages`. The last line is `sizes: N passed, M failed`;
+tests/least.txt says how many there are at least.
 """
 
 import json
@@ -160,10 +161,10 @@ def count():
     return sum(len(numbers) for _, numbers in KINDS)
 
 
-def tried(program):
+def tried(program, names):
     """What each size is, and what is wrong with it."""
     for kind, numbers in KINDS:
-        for number in numbers:
+        for number in numbers if not names or kind.__name__ in names else ():
             found = []
             for words, texts, status, answer in kind(number):
                 wanted = status, answer.encode(), b""
@@ -172,4 +173,6 @@ def tried(program):
 
 
 if __name__ == "__main__":
-    sys.exit(runs.command(__doc__, "sizes", tried))
+    named = sys.argv[2:]
+    del sys.argv[2:]
+    sys.exit(runs.command(__doc__, "sizes", lambda program: tried(program, named)))
