@@ -19,6 +19,8 @@ mod formulas;
 #[cfg(test)]
 mod lists;
 #[cfg(test)]
+mod pages;
+#[cfg(test)]
 mod readers;
 #[cfg(test)]
 mod tables;
