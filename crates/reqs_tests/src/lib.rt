@@ -27,4 +27,6 @@ mod tables;
 #[cfg(test)]
 mod twice;
 #[cfg(test)]
+mod versions;
+#[cfg(test)]
 mod writers;
