@@ -24,8 +24,8 @@ PROGRAM is crates/reqs_cli/out/reqs_cli where none is named (`./build` makes it)
                         `matrix` in so many environments, of 1,000 lines and 10,000 candidates, beside as many `check`, of
                         which at most 20 are run; the peak beside that of one
 
-Times are the least wall times of several runs of the whole process, of `matrix` processor times, peaks the most memory that
-one held; instructions are those that `valgrind --tool=callgrind` counts, of the shapes that take under a second natively. The
+Times are the least wall times of several runs of the whole process, fewer where one takes seconds, of `matrix` processor
+times, peaks the most memory that one held; instructions are those that `valgrind --tool=callgrind` counts, of the shapes that take under a second natively. The
 exit status is 1 where other rows are printed, or a target is missed. With `--write` the table goes to bench/README.md, where
 the rows are right.
 """
@@ -49,6 +49,8 @@ from run import PACKAGING, peak, timed
 from workload import ENVIRONMENT, MARKERS, make_workload
 
 PACKAGES, ONE, MEMBERS, MARKED, EQUAL, SEED = 900_000, 20_000, 160_000, 20_000, 100_000, 7
+# After so many ms no more runs are begun than these few.
+LONG, FEW = 15_000, 3
 # Two sizes of a shape, and how many times as long the greater may take.
 SIZES, TIMES = (4_000, 16_000), 6
 # A shape's targets: how many times the native time, and the native peak, it may take.
@@ -133,10 +135,11 @@ def instructions(command):
 
 def least(command, folder, runs):
     """The least wall time in ms, and what is printed."""
-    out = os.path.join(folder, "rows")
-    wall = min(timed(command, out)[0] for _ in range(runs))
+    out, walls = os.path.join(folder, "rows"), []
+    while len(walls) < min(runs, FEW) or len(walls) < runs and sum(walls) < LONG:
+        walls.append(timed(command, out)[0])
     with open(out, "rb") as file:
-        return wall, file.read()
+        return min(walls), file.read()
 
 
 def pair(ours, native, target, form):
@@ -168,8 +171,7 @@ def compared(name, heads, runs, inputs, target, words, folder):
 def beside_packaging(name, heads, words, folder):
     """The same beside packaging, which takes seconds."""
     inputs = write_inputs(folder, *SHAPES[OF_PACKAGING[name]][0]())
-    runs = words.runs, max(1, words.runs // 5)
-    return compared(name, [heads[0], PACKAGING], runs, inputs, BESIDE_PACKAGING, words, folder)
+    return compared(name, [heads[0], PACKAGING], (words.runs, FEW), inputs, BESIDE_PACKAGING, words, folder)
 
 
 def of_matrix(name, _heads, words, folder):
