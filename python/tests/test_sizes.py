@@ -2,7 +2,8 @@
 
 import unittest
 
-from fowlyore import Marker, Requirement, SpecifierSet, check, conflicts, default_environment, matrix, normal, same
+from fowlyore import Marker, Requirement, SpecifierSet, Version, check, conflicts, default_environment, matrix, normal, same
+from fowlyore.utils import canonicalize_name
 
 NUMBERS = (*range(35), *(it + by for it in (64, 128, 256, 512, 1024) for by in (-1, 0, 1, 2)))
 # A marker of n comparisons has n nodes one above another.
@@ -18,6 +19,37 @@ class Sizes(unittest.TestCase):
         for it in numbers:
             with self.subTest(it):
                 tried(it)
+
+    def test_versions(self):
+        def tried(count):
+            release, local = ".".join(["1", *map(str, range(count))]), ".".join(f"a{it}" for it in range(count + 1))
+            for text in (release, f"{release}a{count}.post{count}.dev{count}", f"1.0+{local}"):
+                self.assertEqual(str(Version(text)), text)
+                self.assertEqual(Version(text), Version(text.upper()))
+                self.assertLess(Version(text), Version("2"))
+            self.assertEqual(Version(release), Version(release + ".0" * count))
+            self.assertLess(Version(f"1.0+{local}"), Version(f"1.0+{local}.0"))
+
+        self.at_each(NUMBERS, tried)
+
+    def test_names_and_urls(self):
+        def tried(count):
+            name = "Ab" * (count + 1)
+            self.assertEqual(canonicalize_name(name), name.lower())
+            self.assertEqual(canonicalize_name(f"a{'-._' * count}b"), "a-b" if count else "ab")
+            url = f"https://example.org{'/a' * count}/b.whl?{'c' * count}"
+            read = Requirement(f"{name}[{name}] @ {url}")
+            self.assertEqual((read.name, read.extras, read.url), (name, {name}, url))
+
+        self.at_each(NUMBERS, tried)
+
+    def test_environments(self):
+        def tried(count):
+            value = "x" * count
+            self.assertTrue(Marker(f"os_name == '{value}'").evaluate({"os_name": value}))
+            self.assertFalse(Marker(f"os_name == '{value}'").evaluate({"os_name": f"{value}x"}))
+
+        self.at_each(NUMBERS, tried)
 
     def test_specifiers(self):
         def tried(count):
