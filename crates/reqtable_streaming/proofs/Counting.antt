@@ -1,6 +1,7 @@
 -- Packages that are there are required.
 use Rattle.std.proofs.Common.{◌≡◌, ◌∙◌, ◌<◌, ◌||◌, Bool, true, List, [], ◌∷◌, length, refl, sym, ap, arith}
 use Rattle.std.specs.List.{list_any}
+use Rattle.std.specs.List.Sorted.{IsStrictlySortedBy}
 use Rattle.std.specs.Str.{bytes_eq}
 use Rattle.std.proofs.lemmas.Slice.Eq.{bytes_eq-Decides}
 use Rattle.pep508_requirement_text.specs.FrontReading.{Front}
@@ -23,6 +24,12 @@ some_required all before (wanted ∷ packages) new same h =
     let itself : bytes_eq name name ≡ true = (bytes_eq-Decides name name).1 refl in
     let there : list_any (bytes_eq name) (names_of (wanted ∷ packages)) ≡ true = ap (λ b. b || list_any (bytes_eq name) (names_of packages)) itself in
     any_some (is_of name) all (sym (new.asked name) ∙ ap (list_any (bytes_eq name)) (sym same) ∙ there)
+
+-- where nothing is asked for, no package is
+pub none_required : (asks : List Ask) → length asks ≡ 0 → AreNew (asks_seen asks) []
+unfolding IsStrictlySortedBy
+none_required [] h = record { rising = tt; asked = λ q. refl; sound = tt; each = tt }
+none_required (ask ∷ asks) h = absurd (omega (arith, h))
 
 pub some_asks : (asks : List Ask) → 0 < length (asks_seen asks) → 0 < length asks
 some_asks [] h = h

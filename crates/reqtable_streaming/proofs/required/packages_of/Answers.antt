@@ -66,28 +66,8 @@ loop-entry-preserved c =
           }));
     }
 
-pub returns-in_err-push-clause-grown : goal.returns-in_err-push-clause-grown
-returns-in_err-push-clause-grown c =
-    let groups = c.args.groups.now in
-    let name = c.in-Some.entry.0.now.now in
-    let start = c.into_iter-entry-iterator.ensures.into_iter_gives ∙ c.iter-entry-items.ensures.rest in
-    let turn = btree_map_turn deref_pair c.loop-entry.yielded c.into_iter-entry-iterator.result c.loop-entry.entry-iterator c.next.new.self c.next.result c.in-Some.entry c.loop-entry.yielded_by c.in-Some.is c.next.ensures.steps by_name_total groups start c.iter-entry-items.ensures.ordered in
-    let got : group_of groups name ≡ Some c.in-Some.entry.1.now = turn.1 in
-    let p = err_from_is_err_and c.from_residual-in_err-push.result c.from_residual-in_err-push.ensures.1 in
-    rw p.1 (λ all are. any_some (is_of name) all (sym (are.packages name) ∙ ap is_some got))
-
-pub returns-in_err-wanted-clause-grown : goal.returns-in_err-wanted-clause-grown
-returns-in_err-wanted-clause-grown c =
-    let groups = c.args.groups.now in
-    let name = c.in-Some.entry.0.now.now in
-    let start = c.into_iter-entry-iterator.ensures.into_iter_gives ∙ c.iter-entry-items.ensures.rest in
-    let turn = btree_map_turn deref_pair c.loop-entry.yielded c.into_iter-entry-iterator.result c.loop-entry.entry-iterator c.next.new.self c.next.result c.in-Some.entry c.loop-entry.yielded_by c.in-Some.is c.next.ensures.steps by_name_total groups start c.iter-entry-items.ensures.ordered in
-    let got : group_of groups name ≡ Some c.in-Some.entry.1.now = turn.1 in
-    let p = err_from_is_err_and c.from_residual.result c.from_residual.ensures.1 in
-    rw p.1 (λ all are. any_some (is_of name) all (sym (are.packages name) ∙ ap is_some got))
-
-pub returns-clause-packages : goal.returns-clause-packages
-returns-clause-packages c = λ all are.
+pub returns : goal.returns
+returns c = λ all are.
     let entries = c.args.groups.now.entries in
     let whole : map deref_pair c.loop-entry.yielded ≡ entries = search (rules, iter_end) in
     let named : names_of c.loop-entry.packages.items ≡ names entries = c.loop-entry.invariant.names all are ∙ ap names whole in
