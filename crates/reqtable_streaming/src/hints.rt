@@ -1,8 +1,8 @@
 //! Hints of where the package of a name stands.
 //!
-//! A hint is a place that is tried first, found by a few bytes of the name. It promises nothing: the name at
-//! that place decides, and where that is another one, names are searched for. So names that were chosen to
-//! have the hints of others cost a search, and never a wrong answer.
+//! A hint is a place that is tried first, found by the ends of the name. It promises nothing: the name at that
+//! place decides, and where that is another one, names are searched for. So names that were chosen to have
+//! the hints of others cost a search, and never a wrong answer.
 
 ghost use Rattle.std.specs.Prelude.{◌<◌, OnErr, length};
 
@@ -12,10 +12,10 @@ use std::alloc::{AllocError, Global};
 /// What stands where there is no hint.
 const NONE: u32 = u32::MAX;
 
-/// What a name's bytes are multiplied by, so that the upper half of the product depends on all of them.
+/// What is multiplied by, so that the higher bits of the product depend on all lower ones.
 const SPREAD: u64 = 0x9e37_79b9_7f4a_7c15;
 
-/// The hints of names, each in one of two slots; one of four slots is used at least where there are names.
+/// The hints of names, each in one of two slots. There are two to four slots for each name.
 pub(crate) fn hints_of(alloc: Global, names: &[Fronted<'_>]) -> Result<Vec<u32>, AllocError>
     ensures grown { OnErr result (0 < length names.now) }
 {
@@ -44,8 +44,8 @@ fn keep_hint(hints: &mut [u32], name: &Fronted<'_>, place: usize) {
     }
 }
 
-/// A place to try for a name among these: that of its first or its second slot, if a name with this front
-/// stands there, and otherwise `before`.
+/// A place to try for a name among these: that of its first or its second slot, if a name with the ends of
+/// this one stands there, and otherwise `before`.
 pub(crate) fn hint_of(
     hints: &[u32],
     names: &[Fronted<'_>],
@@ -54,11 +54,11 @@ pub(crate) fn hint_of(
 ) -> usize {
     let slot = slot_of(name, hints.len());
     let first = hint_at(hints, slot) as usize;
-    if has_front(names, first, name.front) {
+    if is_like(names, first, name) {
         return first;
     }
     let second = hint_at(hints, slot ^ 1) as usize;
-    if has_front(names, second, name.front) {
+    if is_like(names, second, name) {
         return second;
     }
     before
@@ -71,20 +71,28 @@ fn hint_at(hints: &[u32], slot: usize) -> u32 {
     }
 }
 
-/// Whether the name at a place has this front.
-fn has_front(names: &[Fronted<'_>], place: usize, front: u64) -> bool {
+/// Whether the name at a place begins and ends as this one does, in eight bytes each.
+fn is_like(names: &[Fronted<'_>], place: usize, name: &Fronted<'_>) -> bool {
     match names.get(place) {
-        Some(name) => name.front == front,
+        Some(other) => other.front == name.front && end_of(other) == end_of(name),
         None => false,
     }
 }
 
-/// The first slot of a name, by its front and its last four bytes. `slots` is a power of two.
+/// The first slot of a name, by its ends. `slots` is a power of two.
 fn slot_of(name: &Fronted<'_>, slots: usize) -> usize {
-    let last = match name.name.last_chunk::<4>() {
-        Some(bytes) => u32::from_le_bytes(*bytes) as u64,
+    (spread(spread(name.front) ^ end_of(name)) >> 40) as usize & slots.wrapping_sub(1)
+}
+
+/// The last eight bytes of a name as one number; 0 for a shorter name, which its front is the whole of.
+fn end_of(name: &Fronted<'_>) -> u64 {
+    match name.name.last_chunk::<8>() {
+        Some(bytes) => u64::from_be_bytes(*bytes),
         None => 0,
-    };
-    let mixed = (name.front ^ last).wrapping_mul(SPREAD);
-    (mixed >> 32) as usize & slots.wrapping_sub(1)
+    }
+}
+
+/// A number of which the bits from the fortieth on depend on all bits of this one.
+fn spread(bits: u64) -> u64 {
+    (bits ^ bits >> 32).wrapping_mul(SPREAD)
 }

@@ -21,6 +21,7 @@ pub(crate) fn without_return(line: &str) -> &str
 }
 
 /// What is read of a line in the common form.
+#[derive(Drop)]
 pub(crate) struct PlainLine<'a> {
     /// How many bytes of the room for names are the normal form of the line's name.
     pub(crate) name: usize,
