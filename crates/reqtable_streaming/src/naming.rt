@@ -66,10 +66,10 @@ fn lower_letter(byte: u8) -> Option<u8>
     ensures letter { IfSome result (λ letter. is_alphanumeric byte ≡ true) }
     ensures lower { IfSome result (λ letter. letter ≡ to_ascii_lowercase byte) }
 {
-    if byte.is_ascii_lowercase() || byte.is_ascii_digit() {
+    if byte.is_ascii_lowercase() {
         return Some(byte);
     }
-    if byte.is_ascii_uppercase() {
+    if byte.is_ascii_alphanumeric() {
         return Some(byte.to_ascii_lowercase());
     }
     None
