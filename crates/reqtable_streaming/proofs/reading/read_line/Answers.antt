@@ -14,7 +14,7 @@ pub with_front-name-requires : goal.with_front-name-requires
 with_front-name-requires g c =
     let found = c.in-Some.ensures.parts in
     let form : List ℕ = take c.in-Some.read.name c.plain_line.new.normal in
-    let value : c.in-Some.form.now ≡ form = c.split_at.ensures.front in
+    let value = c.split_at.ensures.front in
     ap name_of value ∙ normal_again found.0 form found.2 ∙ ap (λ n. Some n) (sym value)
 
 pub returns-in-Some-clause-blank : goal.returns-in-Some-clause-blank
@@ -29,7 +29,7 @@ returns-in-Some-clause-answered g c = λ kept.
     let line = c.without_return.result.now in
     let version = c.in-Some.read.version.now in
     let form : List ℕ = take c.in-Some.read.name c.plain_line.new.normal in
-    let value : c.in-Some.form.now ≡ form = c.split_at.ensures.front in
+    let value = c.split_at.ensures.front in
     let number = c.args.number in
     offers_same _ _ _ _
     (ap (λ l. candidate_at number (without_comment l)) (sym c.without_return.ensures)
