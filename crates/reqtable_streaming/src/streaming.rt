@@ -102,7 +102,7 @@ fn required<'a>(alloc: Global, asks: Vec<Ask<'a>>) -> Result<Vec<Package<'a>>, A
     ensures packages { IfOk result (λ packages. AreNew (asks_seen asks.entry.items) packages.items) }
     ensures grown { OnErr result (0 < length asks.entry.items) }
 {
-    if asks.is_empty() {
+    if asks.as_slice().is_empty() {
         return Ok(Vec::new(alloc));
     }
     let groups = asks_by_package(alloc, &asks)?;

@@ -1,4 +1,4 @@
-use Rattle.std.proofs.Common.{List, subst}
+use Rattle.std.proofs.Common.{◌∙◌, ◌==◌, List, length, ap, sym, subst}
 use Rattle.reqtable_answer.specs.Says.{asks_seen}
 use Rattle.reqtable_answer.specs.declared.lent.Ask.{Ask}
 use Rattle.reqtable_streaming.specs.Packages.{AreNew}
@@ -15,7 +15,10 @@ packages_of-requires c = (
 )
 
 pub returns-then-is_empty-clause-packages : goal.returns-then-is_empty-clause-packages
-returns-then-is_empty-clause-packages c = none_required c.args.asks.items c.if-is_empty.ensures
+returns-then-is_empty-clause-packages c =
+    let asks = c.args.asks.items in
+    subst (AreNew (asks_seen asks)) (sym c.new.ensures.items)
+    (none_required asks (c.if-is_empty.ensures ∙ ap (λ (l : List Ask). length l == 0) c.as_slice.ensures.value))
 
 pub returns-clause-packages : goal.returns-clause-packages
 returns-clause-packages c =
