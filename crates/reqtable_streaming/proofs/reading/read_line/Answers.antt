@@ -1,4 +1,4 @@
-use Rattle.std.proofs.Common.{◌≡◌, ◌∙◌, List, ℕ, IsTrue, Some, true, false, take, ap, sym, subst, true≢false}
+use Rattle.std.proofs.Common.{◌∙◌, List, ℕ, IsTrue, Some, take, ap, sym, subst, true≢false}
 use Rattle.std.specs.Str.{trim}
 use Rattle.pep440_version.specs.Reading.{version_of}
 use Rattle.pep508_name.specs.Name.{name_of}
@@ -6,7 +6,6 @@ use Rattle.pep508_name.proofs.Again.{normal_again}
 use Rattle.reqtable_candidates.specs.TextLines.{without_comment, is_blank}
 use Rattle.reqtable_candidates.specs.CandidateLine.{candidate_by, has_name}
 use Rattle.reqtable_candidates.specs.Candidates.{at_line, candidate_at}
-use Rattle.reqtable_streaming.specs.LinesRead.{text_of}
 use Rattle.reqtable_streaming.proofs.LineByLine.{offers_same, plain_reading, plain_named}
 use Rattle.reqtable_streaming.proofs.reading.read_line.Goals as goal
 

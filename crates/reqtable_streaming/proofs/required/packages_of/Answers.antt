@@ -9,7 +9,6 @@ use Rattle.std.specs.Map.Iter.{deref_pair}
 use Rattle.std.proofs.lemmas.List.{map-append}
 use Rattle.std.proofs.lemmas.Map.Iter.{btree_map_turn, iter_end}
 use Rattle.std.proofs.Common.{Bor}
-use Rattle.std.proofs.lemmas.Result.{err_from_is_err_and}
 use Rattle.pep508_requirement_text.specs.FrontReading.{Front}
 use Rattle.reqtable_answer.specs.Asks.{is_of}
 use Rattle.reqtable_answer.specs.Groups.{group_of}
@@ -20,7 +19,6 @@ use Rattle.reqtable_answer.proofs.ByPackage.{all_pass, group_some}
 use Rattle.reqtable_streaming.specs.declared.required.Package.{Package}
 use Rattle.reqtable_streaming.specs.Packages.{AreGroups, IsNew, IsSound, names_of}
 use Rattle.reqtable_streaming.proofs.Lists.{all_more}
-use Rattle.reqtable_streaming.proofs.Counting.{any_some}
 use Rattle.reqtable_streaming.proofs.required.packages_of.Goals as goal
 
 pub package_of-requires : goal.package_of-requires

@@ -1,11 +1,9 @@
-use Rattle.std.proofs.Common.{◌≡◌, ◌∙◌, ◌<◌, List, Err, inl, inr, length, ap, sym, subst}
+use Rattle.std.proofs.Common.{◌≡◌, ◌∙◌, Err, inl, inr, ap, sym, subst}
 use Rattle.pep508_evaluation.specs.Valuations.{valuation_of}
 use Rattle.reqtable_candidates.specs.TextLines.{text_lines, each_line}
 use Rattle.reqtable_candidates.specs.Candidates.{candidate_at, candidates_of, IsNameReached}
 use Rattle.reqtable_candidates.specs.declared.candidates.CandidatesError.TheVariants.{NotText}
 use Rattle.reqtable_candidates.proofs.Texts.{text_is_read, no_text_is_read}
-use Rattle.reqtable_answer.specs.Says.{SayAll}
-use Rattle.reqtable_answer.specs.declared.lent.Ask.{Ask}
 use Rattle.reqtable_requirements.specs.Asks.{asks_of}
 use Rattle.reqtable_streaming.proofs.Lines.{some_lines}
 use Rattle.reqtable_streaming.proofs.Read.{judges_mapped}

@@ -1,4 +1,4 @@
-use Rattle.std.proofs.Common.{List, ◌<◌, length, inl, inr, sym, subst, rules}
+use Rattle.std.proofs.Common.{List, sym, subst}
 use Rattle.reqtable_streaming.specs.declared.fronts.Fronted.{Fronted}
 use Rattle.reqtable_streaming.specs.declared.required.Package.{Package}
 use Rattle.reqtable_streaming.specs.Packages.{AreNamesOf}

@@ -1,4 +1,4 @@
-use Rattle.std.proofs.Common.{◌∙◌, ◌<◌, List, length, inl, inr, refl, sym, ap, subst, rules}
+use Rattle.std.proofs.Common.{◌∙◌, inl, inr, refl, sym, ap, subst, rules}
 use Rattle.std.specs.List.{list_any}
 use Rattle.std.specs.List.Sorted.{IsStrictlySortedBy}
 use Rattle.std.specs.Ordering.{nat_cmp}
