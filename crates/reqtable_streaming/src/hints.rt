@@ -1,8 +1,8 @@
 //! Hints of where the package of a name stands.
 //!
-//! A hint is a place that is tried first, found by the ends of the name. It promises nothing: the name at that
-//! place decides, and where that is another one, names are searched for. So names that were chosen to have
-//! the hints of others cost a search, and never a wrong answer.
+//! A hint is a place that is tried first, found by the ends of the name. It promises nothing: the name at
+//! that place decides, and where it is another one, names are searched for. So names that were chosen to
+//! have the hints of others cost a search, and never a wrong answer.
 
 ghost use Rattle.std.specs.Prelude.{◌<◌, OnErr, length};
 

@@ -1,4 +1,4 @@
-//! Names of lines, whose normal forms are written into memory that is used again.
+//! Names of lines, whose normal forms are written into room that is used again.
 
 ghost use Rattle.std.specs.Prelude.{◌≡◌, ◌<◌, ◌≤◌, ◌++◌, ◌∷◌, [], IfSome, Some, true, if◌then◌else◌};
 ghost use Rattle.std.specs.Prelude.{length, take, slice_index};

@@ -36,7 +36,7 @@ use std::alloc::Global;
 const ROOM: usize = 256;
 
 /// Reads the candidates of a text, and offers each to its package. `names` are those of the packages, and
-/// `hints` are where they stand.
+/// `hints` those of where they stand.
 pub(crate) fn read_candidates<F: Fn(&Version, bool) -> bool>(
     alloc: Global,
     text: &str,
@@ -77,8 +77,8 @@ pub(crate) fn read_candidates<F: Fn(&Version, bool) -> bool>(
 }
 
 /// Reads a line with its end and its comment, and offers its candidate to its package; a blank line has none.
-/// `normal` is room for the normal form of a name, and `hints` are where the names stand. `before` is the
-/// place of the package of the candidate before; returns that of this candidate.
+/// `normal` is room for the normal form of a name, and `hints` are those of where the names stand. `before`
+/// is the place of the package of the candidate before; returns that of this candidate.
 fn read_line<F: Fn(&Version, bool) -> bool>(
     alloc: Global,
     number: usize,
