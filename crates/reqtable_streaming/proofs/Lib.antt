@@ -11,3 +11,4 @@ pub mod PlainLines
 pub mod LineByLine
 pub mod PlainWords
 pub mod PassedOver
+pub mod EightBytes

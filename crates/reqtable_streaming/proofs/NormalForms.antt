@@ -4,7 +4,7 @@ use Rattle.std.proofs.Common.{get_or, Option, Some, None, option_map, refl, ap, 
 use Rattle.std.proofs.lemmas.Grind.{common_steps}
 use Rattle.std.proofs.lemmas.List.{drop_all, length-take-le, get_or-take}
 use Rattle.std.specs.Char.{to_ascii_lowercase}
-use Rattle.pep508_name.specs.Name.{is_alphanumeric, is_alphanumeric_at, is_separator, is_name, name_of, normal_name}
+use Rattle.pep508_name.specs.Name.{is_alphanumeric, is_alphanumeric_at, is_name, name_of, normal_name}
 use Rattle.pep508_name.proofs.Walk.{with_byte, behind, written, behind_separator, behind_letter}
 use Rattle.pep508_name.proofs.Parts.{no_more, name_of-begun}
 use Rattle.reqtable_streaming.specs.PlainLines.{AddsByte}

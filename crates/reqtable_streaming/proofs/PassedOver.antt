@@ -1,5 +1,5 @@
 -- Candidates that are known not to be higher than the best one of their package.
-use Rattle.std.proofs.Common.{◌≡◌, ◌∙◌, ℕ, zero, suc, ◌<◌, ◌≤◌, Bool, true, false, cond, ◌&&◌, List, [], ◌∷◌, Some, None, Option, get_or, set, length, refl, sym, ap, subst, arith, true≢false, nat_cmp, nat_le, Less, Equal, Greater, Ordering}
+use Rattle.std.proofs.Common.{◌≡◌, ◌∙◌, ℕ, zero, suc, ◌<◌, ◌≤◌, true, false, cond, ◌&&◌, List, [], ◌∷◌, Some, None, Option, get_or, set, length, refl, sym, ap, subst, arith, true≢false, nat_cmp, nat_le, Less, Equal, Greater, Ordering}
 use Rattle.std.proofs.lemmas.Bool.Decides.{nat_tests}
 use Rattle.std.specs.Cmp.{ranks}
 use Rattle.std.specs.List.{AllZip}
@@ -10,7 +10,7 @@ use Rattle.reqtable_candidates.specs.declared.candidates.Candidate.{Candidate}
 use Rattle.reqtable_answer.specs.Admission.{Admits}
 use Rattle.reqtable_answer.specs.Groups.{exceeds}
 use Rattle.reqtable_streaming.specs.declared.required.Package.{Package}
-use Rattle.reqtable_streaming.specs.Packages.{AreRising, IsWordOf, IsSound, IsOffered, IsPassedOver, IsNext, by_version, passes}
+use Rattle.reqtable_streaming.specs.Packages.{AreRising, IsWordOf, IsSound, IsPassedOver, IsNext, by_version, passes}
 use Rattle.reqtable_streaming.proofs.Offered.{offered_at}
 
 pub at_most : (n m : ℕ) → nat_le n m ≡ true → n ≤ m

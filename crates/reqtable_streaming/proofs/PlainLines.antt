@@ -1,5 +1,5 @@
 -- Lines in the common form: what their parts are.
-use Rattle.std.proofs.Common.{◌≡◌, ◌∙◌, ℕ, ◌+◌, ◌<◌, ◌==◌, ◌&&◌, ◌||◌, not, nat_lt, Bool, true, false, List, [], ◌∷◌, ◌++◌, length, refl, ap, sym, subst, arith}
+use Rattle.std.proofs.Common.{◌≡◌, ◌∙◌, ℕ, ◌+◌, ◌<◌, ◌==◌, ◌&&◌, Bool, true, false, List, [], ◌∷◌, ◌++◌, length, refl, ap, sym, subst, arith}
 use Rattle.std.proofs.Common.{Some, cond, get_or, take, drop}
 use Rattle.std.proofs.lemmas.Bool.Decides.{nat_tests}
 use Rattle.std.proofs.lemmas.List.{take-append-drop}
@@ -8,16 +8,16 @@ use Rattle.std.proofs.lemmas.Str.{encode_ascii, encodes-IsAscii, IsUtf8-append, 
 use Rattle.std.proofs.lemmas.Str.Ascii.{IsAscii-nil, IsAscii-cons}
 use Rattle.std.specs.Prelude.{IsAscii}
 use Rattle.std.specs.Char.{is_whitespace}
-use Rattle.std.specs.List.{AllByRecursion, list_all}
+use Rattle.std.specs.List.{list_all}
 use Rattle.std.specs.Str.{chars, encode_utf8_all, all_scalars, IsUtf8, NonePass, skip_leading_whitespace}
 use Rattle.std.specs.Str.{drop_trailing_whitespace, trim_start, trim_end, trim}
 use Rattle.pep508_name.specs.Name.{is_name, is_name_byte, is_alphanumeric_at}
 use Rattle.reqtable_candidates.specs.TextLines.{without_comment, is_blank}
 use Rattle.reqtable_candidates.specs.CandidateLine.{parts_in}
-use Rattle.reqtable_candidates.specs.CandidateText.{AreWhite, AreItsParts, IsBare}
+use Rattle.reqtable_candidates.specs.CandidateText.{AreWhite, AreItsParts}
 use Rattle.reqtable_candidates.proofs.CandidateParts.{scalars_before, body_of, parts_again}
 use Rattle.reqtable_candidates.proofs.Comments.{no_comment}
-use Rattle.reqtable_candidates.proofs.White.{led, trailed, skip_black, dropped_again, still_black}
+use Rattle.reqtable_candidates.proofs.White.{led, trailed, skip_black}
 use Rattle.reqtable_candidates.proofs.Words.{both_true}
 use Rattle.reqtable_streaming.specs.PlainLines.{is_plain_byte, ArePlainParts}
 use Rattle.reqtable_streaming.proofs.NormalForms.{from_place}

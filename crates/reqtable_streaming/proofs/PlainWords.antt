@@ -1,11 +1,15 @@
 -- The words of versions that are a release alone.
 use Rattle.std.proofs.Common.{◌≡◌, ◌∙◌, ℕ, ◌+◌, ◌*◌, ◌^◌, ◌<◌, ◌&&◌, ◌==◌, nat_lt, Bool, true, false, if◌then◌else◌, List, [], ◌∷◌}
-use Rattle.std.proofs.Common.{Some, None, Ok, refl, ap, arith}
+use Rattle.std.proofs.Common.{Some, None, Ok, length, get_or, drop, refl, ap, arith}
 use Rattle.std.proofs.lemmas.Bool.Decides.{nat_tests}
+use Rattle.std.specs.Char.{is_ascii_digit}
+use Rattle.std.specs.List.{list_all}
 use Rattle.std.specs.Result.{result_ok}
 use Rattle.pep440_version.specs.Record.{VersionRecord, release_record}
 use Rattle.pep440_version.specs.Reading.{read_version, version_of}
 use Rattle.pep440_version.specs.Packing.{packed, fits, word_of}
+use Rattle.reqtable_streaming.specs.PlainLines.{is_plain_byte}
+use Rattle.reqtable_streaming.proofs.NormalForms.{from_place}
 
 pub found : (text numbers : List ℕ) (word : ℕ) → read_version text ≡ Ok (release_record numbers)
     → packed (release_record numbers) ≡ Some word
@@ -51,3 +55,14 @@ packed_three a b c h k l =
     fitted (fits record_of) (word_of record_of) _
     (all_fit (nat_lt a (2 ^ 16)) (nat_lt b (2 ^ 8)) (nat_lt c (2 ^ 8)) (below a (2 ^ 16) h) (below b (2 ^ 8) k)
     (below c (2 ^ 8) l)) (omega arith)
+
+-- ---- their bytes are plain
+
+digit_plain : (b : ℕ) → is_ascii_digit b ≡ true → is_plain_byte b ≡ true
+digit_plain b h = grind (arith, nat_tests)
+
+pub plain_step : (bytes : List ℕ) (i : ℕ) → i < length bytes → is_ascii_digit (get_or bytes i 0) ≡ true
+    → list_all is_plain_byte (drop (i + 1) bytes) ≡ true → list_all is_plain_byte (drop i bytes) ≡ true
+plain_step bytes i within digit rest =
+    ap (list_all is_plain_byte) (from_place bytes i within)
+    ∙ ap (λ t. t && list_all is_plain_byte (drop (i + 1) bytes)) (digit_plain (get_or bytes i 0) digit) ∙ rest

@@ -1,6 +1,6 @@
 -- The required packages, while candidates are read and offered to them.
 use Rattle.std.specs.Prelude.{◌≡◌, ℕ, ◌<◌, Bool, true, false, List, [], ◌∷◌, ◌++◌, map, filter, length}
-use Rattle.std.specs.Prelude.{Option, Some, None, option_map}
+use Rattle.std.specs.Prelude.{Option, Some, None, option_map, Box}
 use Rattle.std.specs.Borrow.{Bor}
 use Rattle.std.specs.BTreeMap.{BTreeMap}
 use Rattle.std.specs.List.{slice_index_or, list_any, enumerate_from, AllByRecursion}
@@ -21,6 +21,7 @@ use Rattle.reqtable_answer.specs.Admission.{Admits}
 use Rattle.reqtable_answer.specs.Asks.{is_of, is_candidate, has_url, has_prerelease, may_be_taken}
 use Rattle.reqtable_answer.specs.Answer as answer
 use Rattle.reqtable_answer.specs.Groups.{asks_for, has_group, better_of, passes_by}
+use Rattle.reqtable_range.specs.declared.one.OneRange.{OneRange}
 use Rattle.reqtable_answer.specs.Ranged.{TellsTaken}
 use Rattle.reqtable_answer.specs.Says.{ask_seen, asks_seen}
 use Rattle.reqtable_streaming.specs.declared.required.Package.{Package}
@@ -53,11 +54,16 @@ IsWordOf None best = Unit {0}
 IsWordOf (Some word) None = ⊥
 IsWordOf (Some word) (Some best) = packed best.version ≡ Some word
 
+-- the range in a box, if there is one
+abbrev pub unboxed : {Z : Type 0} → Option (Box OneRange Z) → Option OneRange
+unboxed None = None
+unboxed (Some boxed) = Some boxed.value
+
 -- what a package keeps of its requirements is theirs, and the word is that of its best candidate
 pub record IsSound (wanted : Package) : Type 0 where
   pub direct : wanted.direct ≡ list_any (λ ask. has_url (ask_seen ask)) wanted.asks.items
   pub prerelease : wanted.prerelease ≡ list_any (λ ask. has_prerelease (ask_seen ask)) wanted.asks.items
-  pub told : TellsTaken wanted.asks.items wanted.range
+  pub told : TellsTaken wanted.asks.items (unboxed wanted.range)
   pub word : IsWordOf wanted.word wanted.best
 
 abbrev pub AreSound : List Package → Type 0

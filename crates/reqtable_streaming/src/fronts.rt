@@ -56,8 +56,22 @@ pub(crate) fn compare(a: &Fronted<'_>, b: &Fronted<'_>) -> Ordering
 }
 
 /// The first of some bytes, eight at most, as one big-endian number; missing bytes are 0.
-#[tactic(auto, unfolding(reqtable_candidates::specs::Fronts::front_of))]
 fn front_of(bytes: &[u8]) -> u64
+    ensures { result ≡ front_of bytes.now }
+{
+    if bytes.len() < 8 {
+        return short_front(bytes);
+    }
+    let first = bytes[0] as u64 * 256 + bytes[1] as u64;
+    let second = bytes[2] as u64 * 256 + bytes[3] as u64;
+    let third = bytes[4] as u64 * 256 + bytes[5] as u64;
+    let fourth = bytes[6] as u64 * 256 + bytes[7] as u64;
+    ((first * 65536 + second) * 65536 + third) * 65536 + fourth
+}
+
+/// The first of some bytes, eight at most, as one big-endian number, byte by byte; missing bytes are 0.
+#[tactic(auto, unfolding(reqtable_candidates::specs::Fronts::front_of))]
+fn short_front(bytes: &[u8]) -> u64
     ensures { result ≡ front_of bytes.now }
 {
     let (front, rest) = shifted(0, bytes);

@@ -11,6 +11,7 @@
 //! ```
 
 mod fronts;
+mod hints;
 pub mod laws;
 mod naming;
 mod offering;

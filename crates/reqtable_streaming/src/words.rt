@@ -2,10 +2,12 @@
 //!
 //! Words order versions, so a candidate whose word is not above that of the best one is not read any further.
 
-ghost use Rattle.std.specs.Prelude.{◌≡◌, ◌<◌, ◌+◌, length, Some, Ok, IfSome};
+ghost use Rattle.std.specs.Prelude.{◌≡◌, ◌<◌, ◌+◌, IsTrue, length, Some, Ok, IfSome};
+ghost use Rattle.std.specs.List.{list_all};
 ghost use Rattle.pep440_version.specs.Record.{VersionRecord};
 ghost use Rattle.pep440_version.specs.Reading.{number_at, marked_number_at, version_of};
 ghost use Rattle.pep440_version.specs.Packing.{packed};
+ghost use Rattle.reqtable_streaming.specs.PlainLines.{is_plain_byte};
 
 /// What the numbers of a release are multiplied by in a word, and what a word without a suffix ends in.
 const FIRST: u64 = 1 << 48;
@@ -19,8 +21,10 @@ const BARE: u64 = 5 << 21;
 /// Returns the word of the version that the text is, if that is one to three small numbers with dots between
 /// them; `None` otherwise. Takes no memory.
 pub(crate) fn read_word(text: &[u8]) -> Option<u64>
-    ensures { IfSome result (λ word. (version : VersionRecord) × (version_of text.now ≡ Some version)
+    ensures word { IfSome result (λ word. (version : VersionRecord) × (version_of text.now ≡ Some version)
         × (packed version ≡ Some word)) }
+    ensures some { IfSome result (λ word. 0 < length text.now) }
+    ensures plain { IfSome result (λ word. IsTrue (list_all is_plain_byte text.now)) }
 {
     let (first, behind_first) = number(text)?;
     if first >= 65536 {
@@ -46,6 +50,8 @@ fn small_number(bytes: &[u8]) -> Option<(u64, &[u8])>
     ensures read { IfSome result (λ found. marked_number_at 46 bytes.now ≡ Ok (Some found.0, found.1.now)) }
     ensures less { IfSome result (λ found. length found.1.now + 1 < length bytes.now) }
     ensures small { IfSome result (λ found. found.0 < 256) }
+    ensures plain { IfSome result (λ found. IsTrue (list_all is_plain_byte found.1.now) →
+        IsTrue (list_all is_plain_byte bytes.now)) }
 {
     match bytes.split_first() {
         Some((b'.', rest)) => {
@@ -64,6 +70,8 @@ fn small_number(bytes: &[u8]) -> Option<(u64, &[u8])>
 fn number(bytes: &[u8]) -> Option<(u64, &[u8])>
     ensures read { IfSome result (λ found. number_at bytes.now ≡ Ok (Some found.0, found.1.now)) }
     ensures less { IfSome result (λ found. length found.1.now < length bytes.now) }
+    ensures plain { IfSome result (λ found. IsTrue (list_all is_plain_byte found.1.now) →
+        IsTrue (list_all is_plain_byte bytes.now)) }
 {
     let mut count = 0;
     let mut total = 0u64;

@@ -23,7 +23,7 @@ returns-in_ok-name-clause-offered g c = λ admits by.
     let same = c.in_ok-prepare.ensures.same in
     let admitted : admits version old.prerelease ≡ true = sym (c.admits.ensures admits by) ∙ c.if-not-admits.false in
     let taken = taken_by admits candidate old new same (sym c.is_greater.ensures ∙ c.if-not-is_greater.false)
-    (sym (c.in_ok-all_take.ensures ∙ ap (list_all (λ ask. ask_takes version (ask_seen ask))) c.deref.ensures.value) ∙ c.if-branch.true)
+    (sym (c.in_ok-accept.ensures ∙ ap (list_all (λ ask. ask_takes version (ask_seen ask))) c.deref.ensures.value) ∙ c.if-branch.true)
     admitted in
     let copied : c.in_ok-name.name ≡ old.name.now = c.in_ok-name.ensures ∙ ap (λ n. n.now) same.name in
     let P : List ℕ → Type 0 = λ n. IsOffered admits candidate old (record new { best = Some (candidate_with n version) }) in

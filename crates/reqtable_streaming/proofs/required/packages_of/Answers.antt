@@ -9,7 +9,6 @@ use Rattle.std.specs.Map.Iter.{deref_pair}
 use Rattle.std.proofs.lemmas.List.{map-append}
 use Rattle.std.proofs.lemmas.Map.Iter.{btree_map_turn, iter_end}
 use Rattle.std.proofs.Common.{Bor}
-use Rattle.std.proofs.lemmas.Result.{err_from_is_err_and}
 use Rattle.pep508_requirement_text.specs.FrontReading.{Front}
 use Rattle.reqtable_answer.specs.Asks.{is_of}
 use Rattle.reqtable_answer.specs.Groups.{group_of}
@@ -20,7 +19,6 @@ use Rattle.reqtable_answer.proofs.ByPackage.{all_pass, group_some}
 use Rattle.reqtable_streaming.specs.declared.required.Package.{Package}
 use Rattle.reqtable_streaming.specs.Packages.{AreGroups, IsNew, IsSound, names_of}
 use Rattle.reqtable_streaming.proofs.Lists.{all_more}
-use Rattle.reqtable_streaming.proofs.Counting.{any_some}
 use Rattle.reqtable_streaming.proofs.required.packages_of.Goals as goal
 
 pub package_of-requires : goal.package_of-requires
@@ -66,28 +64,8 @@ loop-entry-preserved c =
           }));
     }
 
-pub returns-in_err-push-clause-grown : goal.returns-in_err-push-clause-grown
-returns-in_err-push-clause-grown c =
-    let groups = c.args.groups.now in
-    let name = c.in-Some.entry.0.now.now in
-    let start = c.into_iter-entry-iterator.ensures.into_iter_gives ∙ c.iter-entry-items.ensures.rest in
-    let turn = btree_map_turn deref_pair c.loop-entry.yielded c.into_iter-entry-iterator.result c.loop-entry.entry-iterator c.next.new.self c.next.result c.in-Some.entry c.loop-entry.yielded_by c.in-Some.is c.next.ensures.steps by_name_total groups start c.iter-entry-items.ensures.ordered in
-    let got : group_of groups name ≡ Some c.in-Some.entry.1.now = turn.1 in
-    let p = err_from_is_err_and c.from_residual-in_err-push.result c.from_residual-in_err-push.ensures.1 in
-    rw p.1 (λ all are. any_some (is_of name) all (sym (are.packages name) ∙ ap is_some got))
-
-pub returns-in_err-wanted-clause-grown : goal.returns-in_err-wanted-clause-grown
-returns-in_err-wanted-clause-grown c =
-    let groups = c.args.groups.now in
-    let name = c.in-Some.entry.0.now.now in
-    let start = c.into_iter-entry-iterator.ensures.into_iter_gives ∙ c.iter-entry-items.ensures.rest in
-    let turn = btree_map_turn deref_pair c.loop-entry.yielded c.into_iter-entry-iterator.result c.loop-entry.entry-iterator c.next.new.self c.next.result c.in-Some.entry c.loop-entry.yielded_by c.in-Some.is c.next.ensures.steps by_name_total groups start c.iter-entry-items.ensures.ordered in
-    let got : group_of groups name ≡ Some c.in-Some.entry.1.now = turn.1 in
-    let p = err_from_is_err_and c.from_residual.result c.from_residual.ensures.1 in
-    rw p.1 (λ all are. any_some (is_of name) all (sym (are.packages name) ∙ ap is_some got))
-
-pub returns-clause-packages : goal.returns-clause-packages
-returns-clause-packages c = λ all are.
+pub returns : goal.returns
+returns c = λ all are.
     let entries = c.args.groups.now.entries in
     let whole : map deref_pair c.loop-entry.yielded ≡ entries = search (rules, iter_end) in
     let named : names_of c.loop-entry.packages.items ≡ names entries = c.loop-entry.invariant.names all are ∙ ap names whole in

@@ -1,11 +1,9 @@
-use Rattle.std.proofs.Common.{◌≡◌, ◌∙◌, ◌<◌, List, Err, inl, inr, length, ap, sym, subst}
+use Rattle.std.proofs.Common.{◌≡◌, ◌∙◌, Err, inl, inr, ap, sym, subst}
 use Rattle.pep508_evaluation.specs.Valuations.{valuation_of}
 use Rattle.reqtable_candidates.specs.TextLines.{text_lines, each_line}
 use Rattle.reqtable_candidates.specs.Candidates.{candidate_at, candidates_of, IsNameReached}
 use Rattle.reqtable_candidates.specs.declared.candidates.CandidatesError.TheVariants.{NotText}
 use Rattle.reqtable_candidates.proofs.Texts.{text_is_read, no_text_is_read}
-use Rattle.reqtable_answer.specs.Says.{SayAll}
-use Rattle.reqtable_answer.specs.declared.lent.Ask.{Ask}
 use Rattle.reqtable_requirements.specs.Asks.{asks_of}
 use Rattle.reqtable_streaming.proofs.Lines.{some_lines}
 use Rattle.reqtable_streaming.proofs.Read.{judges_mapped}
@@ -25,8 +23,7 @@ returns-clause-answered g c =
     ∙ ap (λ text. each_line candidate_at (text_lines text)) (sym c.in-Ok.ensures.text) in
     judges_mapped _ _ c.selected.result (each_line candidate_at (text_lines c.in-Ok.text.now)) (candidates_of bytes) same
     (λ read selection h vars said admits stands by.
-    let P : List Ask → Type 0 = λ asks. SayAll asks (asks_of v said) in
-    h (asks_of v said) admits (subst P (sym c.deref.ensures.value) (c.in_ok-asks.ensures.said vars said stands)) by)
+    h (asks_of v said) admits (c.in_ok-asks.ensures.said vars said stands) by)
     c.selected.ensures.answered
 
 pub returns-clause-grown : goal.returns-clause-grown
@@ -35,6 +32,5 @@ returns-clause-grown g c = λ e.
     elim (c.selected.ensures.grown e) [
       | inl reached ↦ inl (c.in-Ok.ensures.is_text, subst (λ text. IsNameReached (text_lines text)) c.in-Ok.ensures.text reached)
       | inr asked ↦
-          let P : List Ask → Type 0 = λ asks. 0 < length asks in
-          inr (some_lines v c.args.lines.now c.in_ok-asks.asks.items c.in_ok-asks.ensures.said (subst P c.deref.ensures.value asked))
+          inr (some_lines v c.args.lines.now c.in_ok-asks.asks.items c.in_ok-asks.ensures.said asked)
     ]

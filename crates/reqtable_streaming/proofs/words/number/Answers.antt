@@ -1,6 +1,7 @@
-use Rattle.std.proofs.Common.{◌≡◌, ◌∙◌, Ok, Some, arith, ap, sym}
+use Rattle.std.proofs.Common.{◌∙◌, Ok, Some, arith, ap, sym}
 use Rattle.std.proofs.Math.ListN.{drop_of_length-le}
 use Rattle.pep440_version.proofs.PlainTexts.{digits_step, rest_step, value_step, Stops, stops_at, stops_past, number_read}
+use Rattle.reqtable_streaming.proofs.PlainWords.{plain_step}
 use Rattle.reqtable_streaming.proofs.words.number.Goals as goal
 use Rattle.reqtable_streaming.proofs.words.number.Goals.{then-loop-count-test+else-is_ascii_digit}
 use Rattle.reqtable_streaming.proofs.words.number.Goals.{else-loop-count-test}
@@ -18,6 +19,7 @@ loop-count-preserved c =
       rest = rest_step bytes i c.loop-count-test.true digit so_far.rest;
       so_far = omega (arith, value, so_far.so_far, c.saturating_sub.ensures);
       fits = omega (arith, c.if-total-gt9999.false, c.saturating_sub.type_inv);
+      plain = λ rest. so_far.plain (plain_step bytes i c.loop-count-test.true digit rest);
     }
 
 pub returns-clause-read : goal.returns-clause-read
