@@ -63,9 +63,10 @@ LENT, CONSTANTS, FITS = ["gate/lent.py"], ["gate/constants.py"], [*WRONG, "--tex
 MUTANTS, FIGURES = ["gate/mutants.py", "--listed"], ["bench/figures.py", "--check"]
 FILES, VERSIONS = ["tools/files.py", "--check"], ["gate/versions.py"]
 PACK = [*PROVE, "--program", "reqs_c"]
-DOCUMENTED = ["tests/documented.py", os.path.join(TOP, "crates", "reqs_cli", "out", "reqs_cli")]
+PROGRAM = os.path.join("crates", "reqs_cli", "out", "reqs_cli")
+DOCUMENTED = ["tests/documented.py", os.path.join(TOP, PROGRAM)]
 SIZES = ["tests/sizes.py", "reqs", "packages"]
-# The parts that prove nothing, and leave nothing in the tree but what they take from the store.
+# The parts that prove nothing, and leave nothing in the tree.
 TEXTS = (HELD, MUTANTS, NAMES, LENT, CONSTANTS, FITS, FIGURES, FILES, VERSIONS, DOCUMENTED, SIZES)
 PYTHON_TESTS = "python/tests/test_specifiers.py"
 SPECIFIERS = "crates/reqs_c_versions/specs/Specifiers.antt"
@@ -201,6 +202,10 @@ def judged_by_texts(faults):
     """The same of faults that one part finds by reading texts: in one copy, into which each is planted and taken out again."""
     with tempfile.TemporaryDirectory(prefix="reqs-faults-") as room:
         copy_of(None, room)
+        if faults[0].words == SIZES:
+            # (which the launcher runs)
+            os.makedirs(os.path.join(room, os.path.dirname(PROGRAM)))
+            shutil.copy2(os.path.join(TOP, PROGRAM), os.path.join(room, PROGRAM))
         yield f"the copy for {faults[0].name}", judged(faults[0], False, room)
         for it in faults:
             yield it.name, judged(it, True, room)
