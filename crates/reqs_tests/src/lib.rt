@@ -19,14 +19,10 @@ mod formulas;
 #[cfg(test)]
 mod lists;
 #[cfg(test)]
-mod pages;
-#[cfg(test)]
 mod readers;
 #[cfg(test)]
 mod tables;
 #[cfg(test)]
 mod twice;
-#[cfg(test)]
-mod versions;
 #[cfg(test)]
 mod writers;
