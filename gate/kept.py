@@ -9,6 +9,9 @@ Where more changed, a crate whose own texts are the same is proved through its k
 below as they are now, and checks the others anew. A crate whose own texts are new has no kept work, so that each of its
 modules is checked; so has none where the store is empty.
 
+The tests of a crate that have no kept work begin with that of their library, which has the same texts, so that nothing is
+proved twice: they wait for it.
+
 None is made before those below are there, and what lay in out/ is removed first. What a run from nothing proved is taken
 only where all below it are, since its libraries hold statements alone, which fit just those over which they were made.
 """
@@ -64,7 +67,7 @@ class KeptProver(Prover):
         rt.rtlib.VERDICT = Verdict(rt.rtlib.VERDICT)
         self.forms, self.through = {}, []
         # (what is proved above doesn't wait until kept work is packed)
-        self.pool, self.packed = ThreadPoolExecutor(1), []
+        self.pool, self.packed = ThreadPoolExecutor(1), {}
 
     def form(self, name, tests=False):
         """In which form a crate or its tests are taken, or else proved."""
@@ -103,9 +106,22 @@ class KeptProver(Prover):
         own = keys.summed((seen.code_sum(self.crates[name]), self.crates.around(), keys.scripts_sum(OF_SEEN)))
         return f"{own}.{self.kind(name, tests)}.{WORK}"
 
+    def begins_with_library(self, name, tests):
+        """Whether these are tests beside a library that other crates use, and not a crate of tests."""
+        return tests and self.kind(name) == LIBRARY and any(name in it.uses for it in self.crates.values())
+
     def only_loads(self, name, tests):
         """Whether a check does little but load."""
-        return self.store.has(self.work_entry(name, tests), ())
+        is_made = self.begins_with_library(name, tests) and self.form(name) == WHOLE
+        return is_made or self.store.has(self.work_entry(name, tests), ())
+
+    def in_lanes(self, tasks):
+        """Does as a run from nothing does, where tests wait for the library that they begin with."""
+        made = {}
+        for key, (waits, *rest) in tasks.items():
+            waits_more = not isinstance(key, str) and self.begins_with_library(key[0], key[1] == TESTS)
+            made[key] = [*waits, (key[0], "proof")] if waits_more else waits, *rest
+        return super().in_lanes(made)
 
     def loading(self, name):
         return SECONDS_A_LINE_BELOW * sum(it.lines() for it in self.crates.below(name))
@@ -135,14 +151,21 @@ class KeptProver(Prover):
         room = tempfile.mkdtemp(prefix="reqs-kept-")
         work = os.path.join(room, WORK)
         is_there = self.store.take(entry, room, [WORK])
+        begins = not is_there and self.begins_with_library(crate.name, tests) and self.take_of_library(crate.name, room)
         os.makedirs(work, exist_ok=True)
         status, said = self.prove_over(crate, flags, tests, work)
         anew = sum(int(count) for name, count in CHECKED.findall(said) if name == crate.name)
-        if is_there:
+        if is_there or begins:
             self.through.append(f"{crate.name} ({anew} modules anew)")
         is_new = status == 0 and (anew or not is_there)
-        self.packed.append(self.pool.submit(self.pack, entry if is_new else None, room))
+        self.packed[crate.name, tests] = self.pool.submit(self.pack, entry if is_new else None, room)
         return status
+
+    def take_of_library(self, name, room):
+        """Lays the kept work of a crate's library into a folder, once it is packed, and says whether it is there."""
+        if (name, False) in self.packed:
+            self.packed[name, False].result()
+        return self.store.take(self.work_entry(name, False), room, [WORK])
 
     def pack(self, entry, room):
         """Keeps the kept work of a folder under a name, if there is one, and removes the folder."""
@@ -173,7 +196,7 @@ class KeptProver(Prover):
         return crate.prove(["build", *words, "-o", crate.rlib])
 
     def told(self):
-        for it in self.packed:
+        for it in self.packed.values():
             it.result()
         through = f": {', '.join(self.through)}" if self.through else ""
         return f"{super().told()}, {len(self.through)} proved through kept work{through}"

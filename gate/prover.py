@@ -22,7 +22,7 @@ MARK = "sum"
 # tests own more values.
 SECONDS, SECONDS_A_LINE = 7, {LIBRARY: 0.13, PROGRAM: 0.6, STATIC: 0.6, TESTS: 0.6}
 # What the gate does with a program, or with the library for C, once it is proved, in seconds.
-AFTER = {PROGRAM: 300, STATIC: 600}
+AFTER = {PROGRAM: 300, STATIC: 300}
 # Some checks take a fifth more memory than is reckoned.
 MEMORY = 0.85
 

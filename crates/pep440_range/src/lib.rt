@@ -11,7 +11,7 @@ pub mod laws;
 mod numbers;
 mod range_error;
 mod releases;
-mod sets;
+pub mod sets;
 mod shared;
 
 pub use conversion::specifier_to_range;

@@ -1,4 +1,4 @@
-//! The sets that ranges are made of, with the error of ranges.
+//! The sets that ranges are made of, with the error of ranges. Comparisons of markers are made of some too.
 
 ghost use Rattle.std.specs.Prelude.{◌≡◌, ◌&&◌, Option, Some, Ok, IfOk, IfErr};
 ghost use Rattle.std.specs.Option.{option_map};
@@ -24,7 +24,7 @@ pub(crate) fn point(alloc: Global, version: Version) -> Result<Ranges<Version>, 
 }
 
 /// Returns the set from the version on, the version included.
-pub(crate) fn from(alloc: Global, version: Version) -> Result<Ranges<Version>, RangeError>
+pub fn from(alloc: Global, version: Version) -> Result<Ranges<Version>, RangeError>
     ensures { Gives result (Some (from_bound (Included version))) }
 {
     Ok(Ranges::higher_than(alloc, version)?)
@@ -45,18 +45,14 @@ pub(crate) fn to(alloc: Global, version: Version) -> Result<Ranges<Version>, Ran
 }
 
 /// Returns the set of what is below a version.
-pub(crate) fn below(alloc: Global, version: Version) -> Result<Ranges<Version>, RangeError>
+pub fn below(alloc: Global, version: Version) -> Result<Ranges<Version>, RangeError>
     ensures { Gives result (Some (to_bound (Excluded version))) }
 {
     Ok(Ranges::strictly_lower_than(alloc, version)?)
 }
 
 /// Returns the set from a version on, up to and without another version.
-pub(crate) fn up_to(
-    alloc: Global,
-    first: Version,
-    end: Version,
-) -> Result<Ranges<Version>, RangeError>
+pub fn up_to(alloc: Global, first: Version, end: Version) -> Result<Ranges<Version>, RangeError>
     ensures { Gives result (Some (up_to first end)) }
 {
     let bounds = (Bound::Included(first), Bound::Excluded(end));

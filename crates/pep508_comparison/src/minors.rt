@@ -4,8 +4,7 @@ ghost use Rattle.pep440_range.specs.Ranges.{Gives};
 ghost use Rattle.pep508_comparison.specs.Comparisons.{in_minor, from_next_minor, before_next_minor};
 
 use crate::release_numbers::{minor_of, next_minor};
-use crate::sets;
-use pep440_range::RangeError;
+use pep440_range::{RangeError, sets};
 use pep440_version::Version;
 use std::alloc::Global;
 use version_ranges::Ranges;

@@ -7,9 +7,9 @@ ghost use Rattle.pep508_comparison.specs.Comparisons.{python_version_points};
 
 use crate::minors::{before_next_minor, from_next_minor, in_minor};
 use crate::release_numbers::{are_zeros, compared_numbers};
-use crate::sets;
+use crate::sets::{everywhere, negated, nowhere};
 use pep440_operator::Operator;
-use pep440_range::{RangeError, release_specifier_to_range};
+use pep440_range::{RangeError, release_specifier_to_range, sets};
 use pep440_specifier::VersionSpecifier;
 use pep440_version::Version;
 use std::alloc::Global;
@@ -51,7 +51,7 @@ fn python_range(
 {
     match specifier.operator() {
         Operator::Equal | Operator::ExactEqual => in_minor(alloc, numbers),
-        Operator::NotEqual => sets::negated(alloc, true, in_minor(alloc, numbers)),
+        Operator::NotEqual => negated(alloc, true, in_minor(alloc, numbers)),
         Operator::EqualStar | Operator::NotEqualStar | Operator::TildeEqual => {
             release_specifier_to_range(alloc, specifier)
         }
@@ -72,13 +72,13 @@ fn python_range_past(
     ensures { Gives result (python_points_past operator numbers.now) }
 {
     match operator {
-        Operator::Equal | Operator::EqualStar | Operator::ExactEqual => sets::nowhere(alloc),
-        Operator::NotEqual | Operator::NotEqualStar => sets::everywhere(alloc),
+        Operator::Equal | Operator::EqualStar | Operator::ExactEqual => nowhere(alloc),
+        Operator::NotEqual | Operator::NotEqualStar => everywhere(alloc),
         Operator::TildeEqual => {
             if are_zeros(&numbers[2..]) {
                 in_minor(alloc, numbers)
             } else {
-                sets::nowhere(alloc)
+                nowhere(alloc)
             }
         }
         Operator::LessThan | Operator::LessThanEqual => before_next_minor(alloc, numbers),

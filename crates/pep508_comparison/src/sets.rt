@@ -2,18 +2,16 @@
 
 ghost use Rattle.std.specs.Prelude.{◌≡◌, ◌||◌, Option, Some, IfOk, IfErr};
 ghost use Rattle.std.specs.Option.{option_map};
-ghost use Rattle.std.specs.declared.ops.Bound.TheVariants.{Included, Excluded};
 ghost use Rattle.version_ranges.specs.Point.{Point};
 ghost use Rattle.version_ranges.specs.Held.{holds_at};
 ghost use Rattle.pep440_text.specs.Record.{VersionRecord};
 ghost use Rattle.pep440_version.specs.Order.{version_cmp};
-ghost use Rattle.pep440_range.specs.Ranges.{PointTest, Gives, from_bound, to_bound, up_to};
+ghost use Rattle.pep440_range.specs.Ranges.{PointTest, Gives};
 ghost use Rattle.pep508_comparison.specs.Comparisons.{nowhere, everywhere, negated_points};
 
 use pep440_range::RangeError;
 use pep440_version::Version;
 use std::alloc::Global;
-use std::ops::Bound;
 use version_ranges::Ranges;
 
 /// Returns the set of no version.
@@ -28,32 +26,6 @@ pub(crate) fn everywhere(alloc: Global) -> Result<Ranges<Version>, RangeError>
     ensures { Gives result (Some everywhere) }
 {
     Ok(Ranges::full(alloc)?)
-}
-
-/// Returns the set from the version on, the version included.
-pub(crate) fn from(alloc: Global, version: Version) -> Result<Ranges<Version>, RangeError>
-    ensures { Gives result (Some (from_bound (Included version))) }
-{
-    Ok(Ranges::higher_than(alloc, version)?)
-}
-
-/// Returns the set of what is below a version.
-pub(crate) fn below(alloc: Global, version: Version) -> Result<Ranges<Version>, RangeError>
-    ensures { Gives result (Some (to_bound (Excluded version))) }
-{
-    Ok(Ranges::strictly_lower_than(alloc, version)?)
-}
-
-/// Returns the set from a version on, up to and without another version.
-pub(crate) fn up_to(
-    alloc: Global,
-    first: Version,
-    end: Version,
-) -> Result<Ranges<Version>, RangeError>
-    ensures { Gives result (Some (up_to first end)) }
-{
-    let bounds = (Bound::Included(first), Bound::Excluded(end));
-    Ok(Ranges::from_range_bounds(alloc, bounds)?)
 }
 
 /// Returns a set, or its complement where `negated`; an error is passed on.

@@ -58,5 +58,5 @@ pub use pep508_url::{
 };
 pub use pep508_view::{
     ContainsMarkerTree, Edge, Edges, ExtraMarkerTree, InMarkerTree, MarkerExtra, MarkerTreeKind,
-    MarkerTreeView, StringMarkerTree, TextEdges, VersionMarkerTree,
+    MarkerTreeView, OccurrenceMarkerTree, StringMarkerTree, TextEdges, VersionMarkerTree,
 };

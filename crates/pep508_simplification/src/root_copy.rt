@@ -1,15 +1,16 @@
 //! Copies of a tree's root, which can be changed and made a tree again.
 
-ghost use Rattle.std.specs.Prelude.{◌≡◌, ◌∷◌, map, Some, IfOk, IfSome, MatchOption};
+ghost use Rattle.std.specs.Prelude.{◌≡◌, map, Some, IfOk, IfSome, MatchOption};
 ghost use Rattle.pep508_tree.specs.Meaning.{IsTree, Extends};
 ghost use Rattle.pep508_tree.specs.Roots.{root_of, IsRoot};
-ghost use Rattle.pep508_tree.specs.Joining.{joined, head, tail, node_joined};
+ghost use Rattle.pep508_tree.specs.Joining.{node_joined};
 ghost use Rattle.pep508_tree.specs.Nodes.{AllChildren, Above, IsRising, node_place};
 ghost use Rattle.pep508_simplification.specs.Parts.{record_of, signs, children_of, with_set, IsRejoined};
 
 use pep440_version::Version;
 use pep508_diagram::{Branch, Flag, MarkerText, NodeValue, VersionVariable};
 use pep508_marker::MarkerValueString;
+use pep508_tree::joining::{children_of, first_and_others, joined};
 use pep508_tree::{Interner, MarkerTree, TreeNode};
 use std::alloc::{AllocError, Global};
 use version_ranges::Boundary;
@@ -92,59 +93,6 @@ pub(crate) fn copy_of_root(
     })
 }
 
-fn children_between<T>(
-    alloc: Global,
-    first: MarkerTree,
-    later: &[Branch<T, MarkerTree>],
-) -> Result<Vec<MarkerTree>, AllocError>
-    ensures { IfOk result (λ trees. trees.items ≡ first ∷ map (λ branch. branch.child) later.now) }
-{
-    let mut trees = Vec::new(alloc);
-    trees.push(first)?;
-    for branch in later {
-        trees.push(branch.child)?;
-    }
-    Ok(trees)
-}
-
-/// Returns branches between the same endpoints with other trees. Equal neighbours are joined.
-fn joined<T: Drop>(
-    alloc: Global,
-    first: MarkerTree,
-    later: Vec<Branch<T, MarkerTree>>,
-    trees: &[MarkerTree],
-) -> Result<Vec<Branch<T, MarkerTree>>, AllocError>
-    ensures { IfOk result (λ branches. branches.items ≡ joined first later.items trees.now) }
-{
-    let mut branches = Vec::new(alloc);
-    let mut last = first;
-    let mut left = trees;
-    for branch in later {
-        if let Some((tree, rest)) = left.split_first() {
-            left = rest;
-            if tree.cmp_places(last).is_ne() {
-                last = *tree;
-                branches.push(Branch {
-                    boundary: branch.boundary,
-                    child: last,
-                })?;
-            }
-        }
-    }
-    Ok(branches)
-}
-
-/// Returns the first of trees, and the others.
-fn first_and_others(trees: &[MarkerTree]) -> (MarkerTree, &[MarkerTree])
-    ensures first { result.0 ≡ head trees.now }
-    ensures others { result.1.now ≡ tail trees.now }
-{
-    match trees.split_first() {
-        Some((first, others)) => (*first, others),
-        None => (MarkerTree::TRUE, trees),
-    }
-}
-
 impl Root {
     /// Returns the children, in order.
     pub fn children(&self, alloc: Global) -> Result<Vec<MarkerTree>, AllocError>
@@ -152,8 +100,8 @@ impl Root {
     {
         match self {
             Root::Constant => Ok(Vec::new(alloc)),
-            Root::Versions(_, first, later) => children_between(alloc, *first, later),
-            Root::Texts(_, first, later) => children_between(alloc, *first, later),
+            Root::Versions(_, first, later) => children_of(alloc, *first, later),
+            Root::Texts(_, first, later) => children_of(alloc, *first, later),
             Root::Flagged(_, set, unset) => Ok(vec![in alloc; *set, *unset]?),
         }
     }

@@ -8,6 +8,7 @@
 mod algebra;
 mod conjunction_walk;
 mod interner;
+pub mod joining;
 mod leaf;
 mod node;
 mod node_making;

@@ -1,13 +1,13 @@
 //! The nodes of marker trees.
 
-ghost use Rattle.std.specs.Prelude.{◌≡◌, [], ◌∷◌, map, Some, IfOk, refl};
+ghost use Rattle.std.specs.Prelude.{◌≡◌, [], ◌∷◌, Some, IfOk, refl};
 ghost use Rattle.std.specs.Cmp.{eq_by_cmp_equiv, partial_equiv_from_equiv, partial_order_from_agreeing_total};
 ghost use Rattle.std.specs.Ordering.{eq_by_cmp, as_partial_cmp};
 ghost use Rattle.std.specs.Cmp.Lexicographic.{slice_cmp};
 ghost use Rattle.pep508_diagram.specs.Text.{text_cmp};
 ghost use Rattle.std.specs.declared.cmp.Ordering.TheVariants.{Equal};
 ghost use Rattle.pep508_tree.specs.Forms.{record_of};
-ghost use Rattle.pep508_tree.specs.Joining.{children, joined, node_joined, head, tail};
+ghost use Rattle.pep508_tree.specs.Joining.{children, node_joined};
 ghost use Rattle.pep508_tree.specs.Nodes.{node_rank, node_text, node_place, version_branches, text_branches};
 ghost use Rattle.pep508_tree.specs.Nodes.{first_child, second_child, counterpart, IsRising, Paired, signed};
 ghost use Rattle.pep508_tree.specs.Nodes.{branch_cmp, node_cmp};
@@ -16,6 +16,7 @@ ghost use Rattle.pep508_tree.specs.NodeLaws.{nodes_total};
 ghost use Rattle.pep508_tree.specs.Tags.{node_tag, branches_tag};
 ghost use Rattle.pep508_node_hash.specs.Tags.{text_tag, version_tag};
 
+use crate::joining::{children_of, first_and_others, joined};
 use crate::root::{Children, TreeNode};
 use crate::tree::MarkerTree;
 use pep440_version::Version;
@@ -37,59 +38,6 @@ pub(crate) enum Form<C> {
     Versions(VersionVariable, C, Vec<Branch<Version, C>>),
     Texts(MarkerValueString, C, Vec<Branch<MarkerText, C>>),
     Flagged(Flag, C, C),
-}
-
-fn children_of<T>(
-    alloc: Global,
-    first: Pair,
-    later: &[Branch<T, Pair>],
-) -> Result<Vec<Pair>, AllocError>
-    ensures { IfOk result (λ pairs. pairs.items ≡ first ∷ map (λ branch. branch.child) later.now) }
-{
-    let mut pairs = Vec::new(alloc);
-    pairs.push(first)?;
-    for branch in later {
-        pairs.push(branch.child)?;
-    }
-    Ok(pairs)
-}
-
-/// Returns branches between the same endpoints with other trees. Equal neighbours are joined.
-fn joined<T: Drop>(
-    alloc: Global,
-    first: MarkerTree,
-    later: Vec<Branch<T, Pair>>,
-    trees: &[MarkerTree],
-) -> Result<Vec<Branch<T, MarkerTree>>, AllocError>
-    ensures { IfOk result (λ branches. branches.items ≡ joined first later.items trees.now) }
-{
-    let mut branches = Vec::new(alloc);
-    let mut last = first;
-    let mut left = trees;
-    for branch in later {
-        if let Some((tree, rest)) = left.split_first() {
-            left = rest;
-            if tree.cmp_places(last).is_ne() {
-                last = *tree;
-                branches.push(Branch {
-                    boundary: branch.boundary,
-                    child: last,
-                })?;
-            }
-        }
-    }
-    Ok(branches)
-}
-
-/// Returns the first of trees, and the others.
-fn first_and_others(trees: &[MarkerTree]) -> (MarkerTree, &[MarkerTree])
-    ensures first { result.0 ≡ head trees.now }
-    ensures others { result.1.now ≡ tail trees.now }
-{
-    match trees.split_first() {
-        Some((first, others)) => (*first, others),
-        None => (MarkerTree::TRUE, trees),
-    }
 }
 
 impl Form<Pair> {

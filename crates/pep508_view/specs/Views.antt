@@ -14,8 +14,7 @@ use Rattle.pep508_tree.specs.Nodes.{signed}
 use Rattle.pep508_tree.specs.Roots.{root_of}
 use Rattle.pep508_view.specs.declared.version_view.VersionMarkerTree.{VersionMarkerTree}
 use Rattle.pep508_view.specs.declared.text_view.StringMarkerTree.{StringMarkerTree}
-use Rattle.pep508_view.specs.declared.in_view.InMarkerTree.{InMarkerTree}
-use Rattle.pep508_view.specs.declared.contains_view.ContainsMarkerTree.{ContainsMarkerTree}
+use Rattle.pep508_view.specs.declared.occurrence_view.OccurrenceMarkerTree.{OccurrenceMarkerTree}
 use Rattle.pep508_view.specs.declared.extra_view.ExtraMarkerTree.{ExtraMarkerTree}
 use Rattle.pep508_view.specs.declared.extra_view.MarkerExtra.{MarkerExtra}
 use Rattle.pep508_view.specs.declared.extra_view.MarkerExtra.TheVariants as extra
@@ -41,10 +40,10 @@ version_node view = signed view.negated (Versions view.variable view.first view.
 abbrev pub text_node : StringMarkerTree → NodeRecord
 text_node view = signed view.negated (Texts view.key view.first view.later.now)
 
-abbrev pub in_node : InMarkerTree → NodeRecord
+abbrev pub in_node : OccurrenceMarkerTree → NodeRecord
 in_node view = Flagged (In view.key view.text.now) view.set view.unset
 
-abbrev pub contains_node : ContainsMarkerTree → NodeRecord
+abbrev pub contains_node : OccurrenceMarkerTree → NodeRecord
 contains_node view = Flagged (Contains view.key view.text.now) view.set view.unset
 
 abbrev pub extra_node : ExtraMarkerTree → NodeRecord

@@ -9,9 +9,8 @@ ghost use Rattle.pep508_tree.specs.Meaning.{IsTree, Flagged};
 ghost use Rattle.pep508_tree.specs.Roots.{root_of, IsRoot};
 ghost use Rattle.pep508_view.specs.Views.{IsKind, viewed};
 
-use crate::contains_view::ContainsMarkerTree;
 use crate::extra_view::{ExtraMarkerTree, MarkerExtra};
-use crate::in_view::InMarkerTree;
+use crate::occurrence_view::{ContainsMarkerTree, InMarkerTree, OccurrenceMarkerTree};
 use crate::text_view::StringMarkerTree;
 use crate::version_view::VersionMarkerTree;
 use pep508_diagram::Flag;
@@ -47,9 +46,11 @@ fn flagged<'a>(
     ensures { viewed result ≡ Some (tree, Flagged flag.now set unset) }
 {
     match flag {
-        Flag::In(key, text) => MarkerTreeKind::In(InMarkerTree::new(tree, *key, text, set, unset)),
+        Flag::In(key, text) => {
+            MarkerTreeKind::In(OccurrenceMarkerTree::new(tree, *key, text, set, unset))
+        }
         Flag::Contains(key, text) => {
-            MarkerTreeKind::Contains(ContainsMarkerTree::new(tree, *key, text, set, unset))
+            MarkerTreeKind::Contains(OccurrenceMarkerTree::new(tree, *key, text, set, unset))
         }
         Flag::Extra(name) => {
             MarkerTreeKind::Extra(ExtraMarkerTree::new(tree, MarkerExtra::Extra(name), set, unset))

@@ -9,21 +9,19 @@
 //! (`specs/Views.antt`, `specs/ReadOff.antt`). They compare by the trees that they are views of: comparing
 //! all that they borrow would say the same for one interner, and cost the length of the boundaries.
 
-mod contains_view;
 mod edge;
 mod edges;
 mod extra_view;
-mod in_view;
 mod kind;
 pub mod laws;
+mod occurrence_view;
 mod text_view;
 mod version_view;
 
-pub use contains_view::ContainsMarkerTree;
 pub use edge::Edge;
 pub use edges::{Edges, TextEdges};
 pub use extra_view::{ExtraMarkerTree, MarkerExtra};
-pub use in_view::InMarkerTree;
 pub use kind::{MarkerTreeKind, MarkerTreeView};
+pub use occurrence_view::{ContainsMarkerTree, InMarkerTree, OccurrenceMarkerTree};
 pub use text_view::StringMarkerTree;
 pub use version_view::VersionMarkerTree;

@@ -13,12 +13,14 @@ ghost use Rattle.reqtable_table.specs.Kept.{KeepsAll};
 
 use pep440_version::Version;
 use pep508_environment::MarkerEnvironment;
+use pep508_name::ExtraName;
 use pep508_tree::Interner;
 use pep508_url::Vars;
 use reqtable_answer::{Admission, Answer};
 use reqtable_candidates::Candidates;
 use reqtable_requirements::Requirements;
 use reqtable_table::{Table, TableError};
+use reqtable_table_laws::what_is_told_lasts;
 use std::alloc::{AllocError, Global};
 
 /// The answers for two environments, one after the other.
@@ -47,13 +49,14 @@ fn both_answers<F: Fn(&Version, bool) -> bool>(
     Ok((first, second))
 }
 
-/// The answers for environments, one after the other, among candidates that were found once.
-#[tactic(auto, using(reqtable_table::proofs::Told::told_at_first))]
+/// The answers for environments with extras, one after the other, among candidates that were found once: the
+/// loop of the first page of `reqtable`.
 fn answers_among<F: Fn(&Version, bool) -> bool>(
     alloc: Global,
     table: &mut Table,
     interner: &Interner,
     environments: &[MarkerEnvironment],
+    extras: &[ExtraName],
     candidates: &Candidates,
     admission: &Admission<F>,
 ) -> Result<Vec<Answer>, AllocError>
@@ -61,14 +64,22 @@ fn answers_among<F: Fn(&Version, bool) -> bool>(
     requires cases { AllByRecursion (HasItsCases interner.now.nodes) table.old }
     ensures { IfOk result (λ answers. (said : List LineRecord) (admits : Admits) →
         KeepsAll interner.now.nodes table.old said → AnswersBy (F.post admission.now) admits →
-        AllZip (λ environment answer. IsAnswer admits (asks_of (valuation_of environment []) said)
+        AllZip (λ environment answer. IsAnswer admits (asks_of (valuation_of environment extras.now) said)
         candidates.now (map row_seen answer.rows.items)) environments.now answers.items) }
 {
+    what_is_told_lasts(admission);
     let ordered = candidates.in_order(alloc)?;
     let mut runs = table.runs(alloc, &ordered)?;
     let mut answers = Vec::new(alloc);
     for environment in environments {
-        let answer = table.answer_among(alloc, interner, environment, &[], &mut runs, admission)?;
+        let answer = table.answer_among(
+            alloc,
+            interner,
+            environment,
+            extras,
+            &mut runs,
+            admission,
+        )?;
         answers.push(answer)?;
     }
     Ok(answers)

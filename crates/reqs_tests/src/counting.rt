@@ -7,6 +7,7 @@ use pep508_name::PackageName;
 use pep508_tree::Interner;
 use pep508_url::{Vars, VerbatimUrl};
 use reqtable_requirements::Requirements;
+use reqtable_requirements::laws::lines_that_were_read_are_of_the_nodes;
 use reqtable_table::{Table, TableError};
 use std::alloc::{AllocError, Global};
 use std::fmt::Write;
@@ -25,6 +26,7 @@ fn lines_of(alloc: Global, lines: u32, key: &str) -> Result<String, AllocError> 
 fn counted(alloc: Global, lines: &str, limit: u64) -> Result<String, AllocError> {
     let vars = Vars::new(alloc, &[], "/w")?;
     let mut interner = Interner::new(alloc);
+    lines_that_were_read_are_of_the_nodes();
     let Ok(read) = Requirements::parse(alloc, lines.as_bytes(), &mut interner, &vars) else {
         return String::from_str(alloc, "refused");
     };

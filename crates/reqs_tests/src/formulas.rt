@@ -15,6 +15,7 @@ use pep508_tree::Interner;
 use pep508_url::{Vars, VerbatimUrl};
 use reqtable_answer::{Admission, answer_to, ask_of_marked};
 use reqtable_candidates::Candidates;
+use reqtable_requirements::laws::lines_that_were_read_are_of_the_nodes;
 use reqtable_requirements::{MarkedLines, Requirements};
 use std::alloc::{AllocError, Global};
 use std::fmt::Write;
@@ -209,6 +210,7 @@ fn answer_by_trees(
 ) -> Result<String, AllocError> {
     let vars = Vars::new(alloc, &[], "/w")?;
     let mut interner = Interner::new(alloc);
+    lines_that_were_read_are_of_the_nodes();
     let Ok(lines) = Requirements::parse(alloc, LINES.as_bytes(), &mut interner, &vars) else {
         return Err(AllocError);
     };

@@ -11,6 +11,8 @@ mod copies;
 #[cfg(test)]
 mod counting;
 #[cfg(test)]
+mod covered;
+#[cfg(test)]
 mod ends;
 #[cfg(test)]
 mod faulty;
@@ -19,10 +21,14 @@ mod formulas;
 #[cfg(test)]
 mod lists;
 #[cfg(test)]
+mod pages;
+#[cfg(test)]
 mod readers;
 #[cfg(test)]
 mod tables;
 #[cfg(test)]
 mod twice;
+#[cfg(test)]
+mod versions;
 #[cfg(test)]
 mod writers;

@@ -11,8 +11,10 @@ use pep508_url::Vars;
 use reqtable_answer::Admission;
 use reqtable_candidates::{Candidates, Ordered, Placed};
 use reqtable_requirements::Requirements;
+use reqtable_requirements::laws::lines_that_were_read_are_of_the_nodes;
 use reqtable_table::lent::package_count;
 use reqtable_table::{Case, Table, TableError};
+use reqtable_table_laws::what_is_told_lasts;
 use std::alloc::{AllocError, Global};
 use std::fmt::Write;
 use std::test::Fail;
@@ -39,6 +41,7 @@ pub fn environment(alloc: Global) -> Result<MarkerEnvironment, AllocError> {
 fn answered(alloc: Global, lines: &str, candidates: &str) -> Result<String, AllocError> {
     let vars = Vars::new(alloc, &[], "/w")?;
     let mut interner = Interner::new(alloc);
+    lines_that_were_read_are_of_the_nodes();
     let Ok(read) = Requirements::parse(alloc, lines.as_bytes(), &mut interner, &vars) else {
         return String::from_str(alloc, "refused");
     };
@@ -94,7 +97,6 @@ fn only_candidates_that_are_not_plain_are_asked(rt: HostRuntime) -> Result<(), F
 }
 
 /// How many specifiers were tested after one answer, and after a second among the same candidates.
-#[tactic(auto, using(reqtable_table::proofs::Told::told_at_first))]
 fn tests_of_two(
     alloc: Global,
     table: &mut Table,
@@ -106,6 +108,7 @@ fn tests_of_two(
     let candidates = Candidates::parse(alloc, candidates.as_bytes()).or(Err(AllocError))?;
     let environment = environment(alloc)?;
     let admission = Admission::new(|_: &Version, _: bool| true);
+    what_is_told_lasts(&admission);
     let ordered = candidates.in_order(alloc)?;
     let mut runs = table.runs(alloc, &ordered)?;
     let _ = table.answer_among(alloc, interner, &environment, &[], &mut runs, &admission)?;
@@ -118,6 +121,7 @@ fn tests_of_two(
 fn tested(alloc: Global, lines: &str, candidates: &str) -> Result<String, AllocError> {
     let vars = Vars::new(alloc, &[], "/w")?;
     let mut interner = Interner::new(alloc);
+    lines_that_were_read_are_of_the_nodes();
     let Ok(read) = Requirements::parse(alloc, lines.as_bytes(), &mut interner, &vars) else {
         return String::from_str(alloc, "refused");
     };
@@ -143,6 +147,7 @@ fn what_is_taken_in_a_case_is_kept(rt: HostRuntime) -> Result<(), Fail> {
 fn cases_shown(alloc: Global, lines: &str, name: &str, limit: u64) -> Result<String, AllocError> {
     let vars = Vars::new(alloc, &[], "/w")?;
     let mut interner = Interner::new(alloc);
+    lines_that_were_read_are_of_the_nodes();
     let Ok(read) = Requirements::parse(alloc, lines.as_bytes(), &mut interner, &vars) else {
         return String::from_str(alloc, "refused");
     };
@@ -185,6 +190,7 @@ fn cases_stand_by_their_lines(rt: HostRuntime) -> Result<(), Fail> {
 fn built_within(alloc: Global, lines: &str, limit: u64, in_all: u64) -> Result<String, AllocError> {
     let vars = Vars::new(alloc, &[], "/w")?;
     let mut interner = Interner::new(alloc);
+    lines_that_were_read_are_of_the_nodes();
     let Ok(read) = Requirements::parse(alloc, lines.as_bytes(), &mut interner, &vars) else {
         return String::from_str(alloc, "refused");
     };
@@ -247,6 +253,7 @@ fn sign_of(has: bool) -> &'static str {
 fn ranges_shown(alloc: Global, lines: &str, name: &str) -> Result<String, AllocError> {
     let vars = Vars::new(alloc, &[], "/w")?;
     let mut interner = Interner::new(alloc);
+    lines_that_were_read_are_of_the_nodes();
     let Ok(read) = Requirements::parse(alloc, lines.as_bytes(), &mut interner, &vars) else {
         return String::from_str(alloc, "refused");
     };

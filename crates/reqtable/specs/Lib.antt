@@ -45,3 +45,5 @@ pub use Rattle.reqtable_conflicts.specs.NothingTaken
 pub use Rattle.reqtable_compare.specs.Compared
 pub use Rattle.reqtable_compare.specs.Refusals
 pub use Rattle.reqtable_compare.specs.Answered
+pub use Rattle.reqtable_compare.specs.Relations
+pub use Rattle.reqtable_covers.specs.Covering

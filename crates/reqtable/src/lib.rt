@@ -41,6 +41,10 @@
 //!         println!(rt; "{package} where {}", MarkerTreeRef::new(alloc, &interner, tree))?
 //!     }
 //! }
+//! match covers(alloc, &lock, &requirements, &mut interner, 4096)? {
+//!     Covers::Yes => println!(rt; "covered")?,
+//!     Covers::No { package, lines, .. } => println!(rt; "{package}: {lines:?}")?,
+//! }
 //! ```
 //!
 //! For many environments a table is built from the requirements beforehand, which it consumes. Its answers
@@ -68,6 +72,7 @@ pub use reqtable_candidates::{
 };
 pub use reqtable_compare::{LineCause, Same, SameError, Side, same, same_within};
 pub use reqtable_conflicts::{Conflict, conflicts, conflicts_within};
+pub use reqtable_covers::{Covers, covers, covers_within};
 pub use reqtable_normal::{NormalCause, NormalError, normal, normal_within};
 pub use reqtable_requirements::{Line, MarkedLine, MarkedLines, Requirements, RequirementsError};
 pub use reqtable_streaming::{Selection, judge_text};

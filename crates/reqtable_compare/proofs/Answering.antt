@@ -13,10 +13,11 @@ use Rattle.reqtable_requirements.proofs.Lasting.{lines_kept}
 use Rattle.reqtable_table.specs.Cases.{Builds, HasItsCases}
 use Rattle.reqtable_table.specs.Kept.{KeptPackage}
 use Rattle.reqtable_table.proofs.Packages.{has_kept}
+use Rattle.reqtable_compare.specs.declared.sides.Relation.{Relation}
 use Rattle.reqtable_compare.specs.declared.sides.Same.{Same}
 use Rattle.reqtable_compare.specs.declared.sides.SameError.{SameError}
 use Rattle.reqtable_compare.specs.declared.sides.Side.TheVariants.{Left, Right}
-use Rattle.reqtable_compare.specs.Compared.{Compares}
+use Rattle.reqtable_compare.specs.Related.{Relates}
 use Rattle.reqtable_compare.specs.declared.comparing.Place.{Place}
 use Rattle.reqtable_compare.specs.declared.refusing.Refused.{Refused}
 use Rattle.reqtable_compare.specs.Differences.{ComparesTables, FindsPlace, IsFirstPlace, listed, place_seen}
@@ -71,32 +72,33 @@ none_refused l l' r r' found el er never h = refused_by l l' r r' found None el 
 
 -- ---- the place that was found
 
-pub place_found : (nodes : List NodeRecord) (l l' r r' : List Line) (lt rt : List KeptPackage) (ns ns' : List (List ℕ))
+pub place_found : (relation : Relation) (nodes : List NodeRecord) (l l' r r' : List Line) (lt rt : List KeptPackage) (ns ns' : List (List ℕ))
     (found : Option Place) (place : Place) → l ≡ l' → r ≡ r' → ns ≡ ns' → found ≡ Some place →
-    FindsPlace nodes (listed l lt) (listed r rt) ns (option_map place_seen found) →
-    IsFirstPlace nodes (listed l' lt) (listed r' rt) ns' (place_seen place)
-place_found nodes l l' r r' lt rt ns ns' found place el er en ef h =
-    subst (λ x. IsFirstPlace nodes (listed x lt) (listed r' rt) ns' (place_seen place)) el
-    (subst (λ x. IsFirstPlace nodes (listed l lt) (listed x rt) ns' (place_seen place)) er
-    (subst (λ x. IsFirstPlace nodes (listed l lt) (listed r rt) x (place_seen place)) en
-    (subst (λ f. FindsPlace nodes (listed l lt) (listed r rt) ns (option_map place_seen f)) ef h)))
+    FindsPlace relation nodes (listed l lt) (listed r rt) ns (option_map place_seen found) →
+    IsFirstPlace relation nodes (listed l' lt) (listed r' rt) ns' (place_seen place)
+place_found relation nodes l l' r r' lt rt ns ns' found place el er en ef h =
+    subst (λ x. IsFirstPlace relation nodes (listed x lt) (listed r' rt) ns' (place_seen place)) el
+    (subst (λ x. IsFirstPlace relation nodes (listed l lt) (listed x rt) ns' (place_seen place)) er
+    (subst (λ x. IsFirstPlace relation nodes (listed l lt) (listed r rt) x (place_seen place)) en
+    (subst (λ f. FindsPlace relation nodes (listed l lt) (listed r rt) ns (option_map place_seen f)) ef h)))
 
 -- ---- two tables
 
-pub answered : (vars : Variables) (old one two new : List NodeRecord) (limit : ℕ) (names : List (List ℕ))
+pub answered : (relation : Relation) (vars : Variables) (old one two new : List NodeRecord) (limit : ℕ) (names : List (List ℕ))
     (left right : List Line) (ours theirs : List KeptPackage) (said others : List LineRecord)
     (result : Result Same SameError) → AllZip (StandsFor vars old) left said → AllZip (StandsFor vars old) right others →
     Rise left → Rise right → lines_refusal Left left (lines_refusal Right right None) ≡ None →
     AreOpen limit left right names → Extends old one → Extends one two →
     Builds limit one (said_among names said) (Ok ours) →
     Builds limit two (said_among names others) (Ok theirs) →
-    ComparesTables two new (listed left ours) (listed right theirs) names result → Compares limit new said others result
-answered vars old one two new limit names left right ours theirs said others result h h' rise rise' none are_open keeps more
+    ComparesTables relation two new (listed left ours) (listed right theirs) names result →
+    Relates relation limit new said others result
+answered relation vars old one two new limit names left right ours theirs said others result h h' rise rise' none are_open keeps more
     built built' is =
     let none' = sym (refusal_of vars old left right said others h h') ∙ none in
     let comparable = both_comparable said others none' in
     let away = outside vars old limit left right said others names h h' are_open in
-    compares two limit names (listed left ours) (listed right theirs) said others
+    compares relation two limit names (listed left ours) (listed right theirs) said others
     (side_of vars old one two limit names left ours said h rise comparable.0 built more)
     (side_of vars one two two limit names right theirs others (lines_kept vars old one keeps right others h') rise'
     comparable.1 built' (extends_itself two))

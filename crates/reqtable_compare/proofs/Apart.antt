@@ -13,6 +13,7 @@ use Rattle.pep508_cases.proofs.Marks.{marks_is}
 use Rattle.reqtable_requirements.specs.declared.requirements.Line.{Line}
 use Rattle.reqtable_table.specs.Cases.{IsCaseOf, HasItsCases, cases_under}
 use Rattle.reqtable_table.specs.Kept.{KeptLine, KeptCase, KeptPackage, kept_under}
+use Rattle.reqtable_compare.specs.declared.sides.Relation.{Relation}
 use Rattle.reqtable_compare.specs.Summed.{SummaryRecord}
 use Rattle.reqtable_compare.specs.Totals.{IsSummed, AreSummed, no_lines}
 use Rattle.reqtable_compare.specs.Pairs.{PassesAll, AreApart, ArePartners}
@@ -26,12 +27,12 @@ swapped true false h = refl
 swapped false true h = refl
 swapped false false h = refl
 
-behind : (nodes : List NodeRecord) (one other : SummaryRecord) (back : List SummaryRecord) → one.tree ≡ other.tree →
-    AllByRecursion (λ s. AreDisjoint nodes other.tree s.tree) back → PassesAll nodes back one
-behind nodes one other [] same apart = tt
-behind nodes one other (s ∷ back) same apart = (
+behind : (relation : Relation) (nodes : List NodeRecord) (one other : SummaryRecord) (back : List SummaryRecord) → one.tree ≡ other.tree →
+    AllByRecursion (λ s. AreDisjoint nodes other.tree s.tree) back → PassesAll relation nodes back one
+behind relation nodes one other [] same apart = tt
+behind relation nodes one other (s ∷ back) same apart = (
   inr (subst (λ t. AreDisjoint nodes t s.tree) (sym same) apart.0),
-  behind nodes one other back same apart.1,
+  behind relation nodes one other back same apart.1,
 )
 
 middle : (nodes : List NodeRecord) (f other : SummaryRecord) (front back : List SummaryRecord) →
@@ -39,24 +40,25 @@ middle : (nodes : List NodeRecord) (f other : SummaryRecord) (front back : List 
 middle nodes f other [] back apart = apart.0
 middle nodes f other (s ∷ front) back apart = middle nodes f other front back apart.1
 
-beside : (nodes : List NodeRecord) (one other : SummaryRecord) (front back : List SummaryRecord) →
-    ArePartners one other → AreApart nodes (front ++ other ∷ back) → PassesAll nodes (front ++ other ∷ back) one
-beside nodes one other [] back partners apart = (
-  inl partners.alike,
-  behind nodes one other back partners.tree apart.0,
+beside : (relation : Relation) (nodes : List NodeRecord) (one other : SummaryRecord) (front back : List SummaryRecord) →
+    ArePartners relation one other → AreApart nodes (front ++ other ∷ back) → PassesAll relation nodes (front ++ other ∷ back) one
+beside relation nodes one other [] back partners apart = (
+  inl partners.fit,
+  behind relation nodes one other back partners.tree apart.0,
 )
-beside nodes one other (f ∷ front) back partners apart = (
+beside relation nodes one other (f ∷ front) back partners apart = (
   inr (subst (λ t. AreDisjoint nodes t f.tree) (sym partners.tree)
       (λ v. swapped (holds nodes f.tree v) (holds nodes other.tree v)
       (middle nodes f other front back apart.0 v))),
-  beside nodes one other front back partners apart.1,
+  beside relation nodes one other front back partners apart.1,
 )
 
-pub passes_beside : (nodes : List NodeRecord) (one other : SummaryRecord) (all front back : List SummaryRecord) →
-    all ≡ front ++ other ∷ back → ArePartners one other → AreApart nodes all → PassesAll nodes all one
-passes_beside nodes one other all front back split partners apart =
-    subst (λ l. PassesAll nodes l one) (sym split)
-    (beside nodes one other front back partners (subst (AreApart nodes) split apart))
+pub passes_beside : (relation : Relation) (nodes : List NodeRecord) (one other : SummaryRecord)
+    (all front back : List SummaryRecord) →
+    all ≡ front ++ other ∷ back → ArePartners relation one other → AreApart nodes all → PassesAll relation nodes all one
+passes_beside relation nodes one other all front back split partners apart =
+    subst (λ l. PassesAll relation nodes l one) (sym split)
+    (beside relation nodes one other front back partners (subst (AreApart nodes) split apart))
 
 -- ---- the cases of a package are such
 

@@ -3,11 +3,13 @@ pub mod Comparable
 pub mod AnsweredAlike
 pub mod OfTexts
 pub mod Likeness
+pub mod Within
 pub mod Finding
 pub mod Paired
 pub mod Causes
 pub mod ByNumber
 pub mod Summaries
+pub mod Rising
 pub mod Packages
 pub mod Trees
 pub mod Whole

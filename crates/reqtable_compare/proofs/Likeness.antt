@@ -13,7 +13,10 @@ use Rattle.reqtable_answer.proofs.OneAnswer.{same_texts}
 use Rattle.reqtable_answer.proofs.Tests.{same_bytes}
 use Rattle.reqtable_cases.specs.Usable.{is_usable, points_of, IsRangeOf}
 use Rattle.reqtable_cases.specs.Requires.{RequireAlike}
-use Rattle.reqtable_compare.specs.Summed.{SummaryRecord, SameRange, Alike, IsSummaryOf}
+use Rattle.reqtable_compare.specs.declared.sides.Relation.{Relation}
+use Rattle.reqtable_compare.specs.declared.sides.Relation.TheVariants as relations
+use Rattle.reqtable_compare.specs.Relations.{IsCovered, Relate}
+use Rattle.reqtable_compare.specs.Summed.{SummaryRecord, SameRange, Alike, IsSummaryOf, WithinRange, Covering, Fit}
 
 abbrev Range : Type 0
 Range = Option (List (Point VersionRecord))
@@ -62,6 +65,74 @@ from_require (x ∷ xs) (o ∷ os) a b one other h = inr (record {
   range = range_by (x ∷ xs) (o ∷ os) a.range b.range one.usable other.usable (one.range refl) (other.range refl) h.points;
   prerelease = one.prerelease ∙ h.prerelease ∙ sym other.prerelease;
 })
+
+-- ---- and cases cover others where their asks do
+
+points_within : (asks others : List Front) (a b : Range) → IsRangeOf asks a → IsRangeOf others b → WithinRange a b →
+    (p : Point VersionRecord) → points_of asks p ≡ true → points_of others p ≡ true
+points_within asks others None b of other within p h = absurd within
+points_within asks others (Some x) None of other within p h = absurd within
+points_within asks others (Some x) (Some y) of other within p h = sym (other.1 p) ∙ within p (of.1 p ∙ h)
+
+range_within : (asks others : List Front) (a b : Range) → is_usable asks ≡ true → is_usable others ≡ true →
+    IsRangeOf asks a → IsRangeOf others b →
+    ((p : Point VersionRecord) → points_of asks p ≡ true → points_of others p ≡ true) → WithinRange a b
+range_within asks others None b usable usable' of other within = absurd (true≢false (sym usable ∙ of))
+range_within asks others (Some x) None usable usable' of other within = absurd (true≢false (sym usable' ∙ other))
+range_within asks others (Some x) (Some y) usable usable' of other within =
+    (λ p h. other.1 p ∙ within p (sym (of.1 p) ∙ h))
+
+pub to_covered : (asks others : List Front) (a b : SummaryRecord) → IsSummaryOf asks a → IsSummaryOf others b →
+    Covering a b → IsCovered asks others
+to_covered [] [] a b one other h = tt
+to_covered [] (o ∷ os) a b one other (inl none) = never_both b.some other.some none
+to_covered [] (o ∷ os) a b one other (inr both) = never_both a.some both.some one.some
+to_covered (x ∷ xs) [] a b one other h = tt
+to_covered (x ∷ xs) (o ∷ os) a b one other (inl none) = absurd (never_both b.some other.some none)
+to_covered (x ∷ xs) (o ∷ os) a b one other (inr both) = record {
+  extras = λ e there. sym (one.extras e) ∙ both.extras e (other.extras e ∙ there);
+  points = points_within (x ∷ xs) (o ∷ os) a.range b.range (one.range refl) (other.range refl) both.range;
+}
+
+pub from_covered : (asks others : List Front) (a b : SummaryRecord) → IsSummaryOf asks a → IsSummaryOf others b →
+    IsCovered asks others → Covering a b
+from_covered [] [] a b one other h = inl other.some
+from_covered [] (o ∷ os) a b one other h = absurd h
+from_covered (x ∷ xs) [] a b one other h = inl other.some
+from_covered (x ∷ xs) (o ∷ os) a b one other h = inr (record {
+  some = one.some;
+  extras = λ e there. one.extras e ∙ h.extras e (sym (other.extras e) ∙ there);
+  range = range_within (x ∷ xs) (o ∷ os) a.range b.range one.usable other.usable (one.range refl) (other.range refl)
+      h.points;
+})
+
+-- ---- as a relation has it
+
+pub to_relate : (relation : Relation) (asks others : List Front) (a b : SummaryRecord) → IsSummaryOf asks a →
+    IsSummaryOf others b → Fit relation a b → Relate relation asks others
+to_relate relations.Alike asks others a b one other h = to_require asks others a b one other h
+to_relate relations.Covering asks others a b one other h = to_covered asks others a b one other h
+
+pub from_relate : (relation : Relation) (asks others : List Front) (a b : SummaryRecord) → IsSummaryOf asks a →
+    IsSummaryOf others b → Relate relation asks others → Fit relation a b
+from_relate relations.Alike asks others a b one other h = from_require asks others a b one other h
+from_relate relations.Covering asks others a b one other h = from_covered asks others a b one other h
+
+-- what requires the same is as any relation has it
+
+pub alike_covered : (asks others : List Front) → RequireAlike asks others → IsCovered asks others
+alike_covered [] [] h = tt
+alike_covered [] (o ∷ os) h = h
+alike_covered (x ∷ xs) [] h = tt
+alike_covered (x ∷ xs) (o ∷ os) h = record {
+  extras = λ e there. h.extras e ∙ there;
+  points = λ p there. sym (h.points p) ∙ there;
+}
+
+pub alike_related : (relation : Relation) (asks others : List Front) → RequireAlike asks others →
+    Relate relation asks others
+alike_related relations.Alike asks others h = h
+alike_related relations.Covering asks others h = alike_covered asks others h
 
 -- ---- lists of names
 

@@ -14,6 +14,7 @@ use Rattle.pep508_tree.specs.Meaning.{NodeRecord, IsTree}
 use Rattle.pep508_tree.specs.Disjoint.{AreDisjoint}
 use Rattle.pep508_cases.specs.Pairs.{pair_cmp, is_listed, tree_or_never, AreMeeting}
 use Rattle.pep508_cases.proofs.Listing.{eq_pair}
+use Rattle.reqtable_compare.specs.declared.sides.Relation.{Relation}
 use Rattle.reqtable_compare.specs.Summed.{SummaryRecord}
 use Rattle.reqtable_compare.specs.Totals.{no_lines}
 use Rattle.reqtable_compare.specs.Pairs.{Passes, PassesAll, Fails, IsFirstPair, AreOfTrees, case_trees}
@@ -24,8 +25,8 @@ abbrev pub case_at : List SummaryRecord → ℕ → SummaryRecord
 case_at cases place = get_or cases place no_lines
 
 -- the cases at both places of a pair pass
-abbrev pub PassAt : List NodeRecord → List SummaryRecord → List SummaryRecord → ℕ × ℕ → Type 0
-PassAt nodes left right pair = Passes nodes (case_at left pair.0) (case_at right pair.1)
+abbrev pub PassAt : Relation → List NodeRecord → List SummaryRecord → List SummaryRecord → ℕ × ℕ → Type 0
+PassAt relation nodes left right pair = Passes relation nodes (case_at left pair.0) (case_at right pair.1)
 
 -- ---- places in lists
 
@@ -143,7 +144,7 @@ listed_before (x ∷ pairs) (suc k) d pair rising inside less is = elim (cases_B
 
 -- ---- the walk
 
-module _ (nodes : List NodeRecord) (left right : List SummaryRecord) (pairs : List (ℕ × ℕ))
+module _ (relation : Relation) (nodes : List NodeRecord) (left right : List SummaryRecord) (pairs : List (ℕ × ℕ))
     (are : AreMeeting nodes (case_trees left) (case_trees right) pairs) where
   pub inside : (k : ℕ) (d : ℕ × ℕ) → k < length pairs →
       ((get_or pairs k d).0 < length left) × ((get_or pairs k d).1 < length right)
@@ -155,34 +156,34 @@ module _ (nodes : List NodeRecord) (left right : List SummaryRecord) (pairs : Li
       (omega (arith, one, within.0), omega (arith, two, within.1))
 
   unlisted : (pair : ℕ × ℕ) → pair.0 < length left → pair.1 < length right → is_listed pairs pair ≡ false →
-      PassAt nodes left right pair
+      PassAt relation nodes left right pair
   unlisted pair less less' none =
       inr (subst (λ t. AreDisjoint nodes t (case_at right pair.1).tree) (tree_is left pair.0 less)
       (subst (AreDisjoint nodes (tree_or_never (case_trees left) pair.0)) (tree_is right pair.1 less')
       (are.others pair none)))
 
-  pub all_pass : AllByRecursion (PassAt nodes left right) pairs → AllByRecursion (PassesAll nodes right) left
+  pub all_pass : AllByRecursion (PassAt relation nodes left right) pairs → AllByRecursion (PassesAll relation nodes right) left
   all_pass each =
-      all_of (PassesAll nodes right) left no_lines (λ i less.
-      all_of (Passes nodes (case_at left i)) right no_lines (λ j less'.
+      all_of (PassesAll relation nodes right) left no_lines (λ i less.
+      all_of (Passes relation nodes (case_at left i)) right no_lines (λ j less'.
       elim (cases_Bool (is_listed pairs (i, j))) [
-        | inl e ↦ listed_has (PassAt nodes left right) pairs (i, j) each e
+        | inl e ↦ listed_has (PassAt relation nodes left right) pairs (i, j) each e
         | inr e ↦ unlisted (i, j) less less' e
       ]))
 
   module _ (k : ℕ) (d : ℕ × ℕ) (less : k < length pairs)
-      (before : AllByRecursion (PassAt nodes left right) (take k pairs)) where
+      (before : AllByRecursion (PassAt relation nodes left right) (take k pairs)) where
     earlier : (pair : ℕ × ℕ) → pair.0 < length left → pair.1 < length right →
-        pair_cmp pair (get_or pairs k d) ≡ Less → PassAt nodes left right pair
+        pair_cmp pair (get_or pairs k d) ≡ Less → PassAt relation nodes left right pair
     earlier pair one two first = elim (cases_Bool (is_listed pairs pair)) [
       | inl e ↦
-          listed_has (PassAt nodes left right) (take k pairs) pair before
+          listed_has (PassAt relation nodes left right) (take k pairs) pair before
           (listed_before pairs k d pair are.rising less first e)
       | inr e ↦ unlisted pair one two e
     ]
 
-    pub first_fails : Fails nodes (case_at left (get_or pairs k d).0) (case_at right (get_or pairs k d).1) →
-        IsFirstPair nodes left right (case_at left (get_or pairs k d).0).tree
+    pub first_fails : Fails relation nodes (case_at left (get_or pairs k d).0) (case_at right (get_or pairs k d).1) →
+        IsFirstPair relation nodes left right (case_at left (get_or pairs k d).0).tree
         (case_at right (get_or pairs k d).1).tree
     first_fails fails =
         let pair = get_or pairs k d in
@@ -192,8 +193,8 @@ module _ (nodes : List NodeRecord) (left right : List SummaryRecord) (pairs : Li
           first = case_at left pair.0;
           back = drop (suc pair.0) left;
           split = parted left pair.0 no_lines within.0;
-          before = all_before (PassesAll nodes right) left pair.0 no_lines (λ i first one.
-              all_of (Passes nodes (case_at left i)) right no_lines (λ j two.
+          before = all_before (PassesAll relation nodes right) left pair.0 no_lines (λ i first one.
+              all_of (Passes relation nodes (case_at left i)) right no_lines (λ j two.
               earlier (i, j) one two (earlier_row (i, j) pair first)));
           is = refl;
           beside = record {
@@ -201,17 +202,17 @@ module _ (nodes : List NodeRecord) (left right : List SummaryRecord) (pairs : Li
             other = case_at right pair.1;
             back = drop (suc pair.1) right;
             split = parted right pair.1 no_lines within.1;
-            before = all_before (Passes nodes (case_at left pair.0)) right pair.1 no_lines (λ j first two.
+            before = all_before (Passes relation nodes (case_at left pair.0)) right pair.1 no_lines (λ j first two.
                 earlier (pair.0, j) within.0 two (earlier_beside pair.0 pair j refl first));
             fails = fails;
             is = refl;
           };
         }
 
-    pub one_more : PassAt nodes left right (get_or pairs k d) → AllByRecursion (PassAt nodes left right) (take (k + 1) pairs)
+    pub one_more : PassAt relation nodes left right (get_or pairs k d) → AllByRecursion (PassAt relation nodes left right) (take (k + 1) pairs)
     one_more passes =
-        subst (AllByRecursion (PassAt nodes left right)) (sym (take_more pairs k d less))
-        (all_more (PassAt nodes left right) (take k pairs) (get_or pairs k d) before passes)
+        subst (AllByRecursion (PassAt relation nodes left right)) (sym (take_more pairs k d less))
+        (all_more (PassAt relation nodes left right) (take k pairs) (get_or pairs k d) before passes)
 
 made : (nodes : List NodeRecord) (cases : List SummaryRecord) → AreOfTrees nodes cases →
     AllByRecursion (IsTree nodes) (case_trees cases)
@@ -225,25 +226,25 @@ trees_made nodes cases lent trees same are all =
 
 -- ---- as a loop over the pairs has it
 
-module _ {A : Type 0} (f : A → SummaryRecord) (nodes : List NodeRecord) (left right : List A) (pairs : List (ℕ × ℕ))
+module _ {A : Type 0} (f : A → SummaryRecord) (relation : Relation) (nodes : List NodeRecord) (left right : List A) (pairs : List (ℕ × ℕ))
     (are : AreMeeting nodes (case_trees (map f left)) (case_trees (map f right)) pairs) where
-  pub every : (k : ℕ) → length pairs ≤ k → AllByRecursion (PassAt nodes (map f left) (map f right)) (take k pairs) →
-      AllByRecursion (PassesAll nodes (map f right)) (map f left)
+  pub every : (k : ℕ) → length pairs ≤ k → AllByRecursion (PassAt relation nodes (map f left) (map f right)) (take k pairs) →
+      AllByRecursion (PassesAll relation nodes (map f right)) (map f left)
   every k long each =
-      all_pass nodes (map f left) (map f right) pairs are
-      (subst (AllByRecursion (PassAt nodes (map f left) (map f right))) (take_all k pairs long) each)
+      all_pass relation nodes (map f left) (map f right) pairs are
+      (subst (AllByRecursion (PassAt relation nodes (map f left) (map f right))) (take_all k pairs long) each)
 
   module _ (k : ℕ) (less : k < length pairs) (one other : A) (one_is : one ≡ get_or left (get_or pairs k (0, 0)).0 one)
       (other_is : other ≡ get_or right (get_or pairs k (0, 0)).1 other) where
     first_inside : (get_or pairs k (0, 0)).0 < length left
     first_inside =
-        let within = inside nodes (map f left) (map f right) pairs are k (0, 0) less in
+        let within = inside relation nodes (map f left) (map f right) pairs are k (0, 0) less in
         let long = long_mapped f left in
         omega (arith, within.0, long)
 
     second_inside : (get_or pairs k (0, 0)).1 < length right
     second_inside =
-        let within = inside nodes (map f left) (map f right) pairs are k (0, 0) less in
+        let within = inside relation nodes (map f left) (map f right) pairs are k (0, 0) less in
         let long = long_mapped f right in
         omega (arith, within.1, long)
 
@@ -259,19 +260,19 @@ module _ {A : Type 0} (f : A → SummaryRecord) (nodes : List NodeRecord) (left 
     pub second_has : (P : SummaryRecord → Type 0) → AllByRecursion P (map f right) → P (f other)
     second_has P = mapped_at f P right (get_or pairs k (0, 0)).1 other second_inside other_is
 
-    pub next : AllByRecursion (PassAt nodes (map f left) (map f right)) (take k pairs) → Passes nodes (f one) (f other) →
-        AllByRecursion (PassAt nodes (map f left) (map f right)) (take (k + 1) pairs)
+    pub next : AllByRecursion (PassAt relation nodes (map f left) (map f right)) (take k pairs) → Passes relation nodes (f one) (f other) →
+        AllByRecursion (PassAt relation nodes (map f left) (map f right)) (take (k + 1) pairs)
     next before passes =
-        one_more nodes (map f left) (map f right) pairs are k (0, 0) less before
-        (subst (λ s. Passes nodes s (case_at (map f right) (get_or pairs k (0, 0)).1)) (sym first_at)
-        (subst (Passes nodes (f one)) (sym second_at) passes))
+        one_more relation nodes (map f left) (map f right) pairs are k (0, 0) less before
+        (subst (λ s. Passes relation nodes s (case_at (map f right) (get_or pairs k (0, 0)).1)) (sym first_at)
+        (subst (Passes relation nodes (f one)) (sym second_at) passes))
 
-    pub stops : AllByRecursion (PassAt nodes (map f left) (map f right)) (take k pairs) → Fails nodes (f one) (f other) →
-        IsFirstPair nodes (map f left) (map f right) (f one).tree (f other).tree
+    pub stops : AllByRecursion (PassAt relation nodes (map f left) (map f right)) (take k pairs) → Fails relation nodes (f one) (f other) →
+        IsFirstPair relation nodes (map f left) (map f right) (f one).tree (f other).tree
     stops before fails =
         let rs = map f right in
         let second = case_at rs (get_or pairs k (0, 0)).1 in
-        subst (λ s. IsFirstPair nodes (map f left) rs s.tree (f other).tree) first_at
-        (subst (λ s. IsFirstPair nodes (map f left) rs (case_at (map f left) (get_or pairs k (0, 0)).0).tree s.tree) second_at
-        (first_fails nodes (map f left) rs pairs are k (0, 0) less before
-        (subst (λ s. Fails nodes s second) (sym first_at) (subst (Fails nodes (f one)) (sym second_at) fails))))
+        subst (λ s. IsFirstPair relation nodes (map f left) rs s.tree (f other).tree) first_at
+        (subst (λ s. IsFirstPair relation nodes (map f left) rs (case_at (map f left) (get_or pairs k (0, 0)).0).tree s.tree) second_at
+        (first_fails relation nodes (map f left) rs pairs are k (0, 0) less before
+        (subst (λ s. Fails relation nodes s second) (sym first_at) (subst (Fails relation nodes (f one)) (sym second_at) fails))))

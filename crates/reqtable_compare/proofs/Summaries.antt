@@ -107,7 +107,7 @@ one_rises : IsStrictlySortedBy marks_cmp ([] ∷ [])
 unfolding IsStrictlySortedBy
 one_rises = (tt, tt)
 
-none_rise : IsStrictlySortedBy (slice_cmp nat_cmp) []
+pub none_rise : IsStrictlySortedBy (slice_cmp nat_cmp) []
 unfolding IsStrictlySortedBy
 none_rise = tt
 

@@ -1,5 +1,5 @@
 -- The summaries of a table's cases have trees of its nodes.
-use Rattle.std.proofs.Common.{◌≡◌, ◌∙◌, ℕ, List, [], ◌∷◌, ◌++◌, map, Result, Ok, Err, sym, subst, arith}
+use Rattle.std.proofs.Common.{◌≡◌, ◌∙◌, ℕ, List, [], ◌∷◌, ◌++◌, map, Result, Ok, Err, IfOk, sym, subst, arith}
 use Rattle.std.specs.List.{AllZip, AllByRecursion}
 use Rattle.pep508_tree.specs.Tree.{Tree}
 use Rattle.pep508_tree.specs.Meaning.{NodeRecord, IsTree}
@@ -11,9 +11,11 @@ use Rattle.reqtable_table.specs.Kept.{KeptLine, KeptCase, KeptPackage, kept_unde
 use Rattle.reqtable_compare.specs.Summed.{SummaryRecord}
 use Rattle.reqtable_compare.specs.Totals.{IsSummed, AreSummed, no_lines}
 use Rattle.reqtable_compare.specs.Pairs.{AreOfTrees}
+use Rattle.reqtable_compare.specs.declared.sides.Relation.{Relation}
 use Rattle.reqtable_compare.specs.declared.sides.Same.{Same}
 use Rattle.reqtable_compare.specs.declared.sides.Same.TheVariants.{Yes, No}
 use Rattle.reqtable_compare.specs.declared.sides.SameError.{SameError}
+use Rattle.reqtable_compare.specs.Related.{HasTree}
 use Rattle.reqtable_compare.specs.Differences.{Listed, Place, IsFirstPlace, AnswersPlace, ComparesTables}
 use Rattle.reqtable_compare.proofs.Packages.{summed_under}
 
@@ -59,10 +61,10 @@ pub record Meet (nodes : List NodeRecord) (one other : Tree) : Type 0 where
   pub other_made : IsTree nodes other
   pub meet : AreDisjoint nodes one other → ⊥
 
-pub place_meets : (nodes : List NodeRecord) (left right : Listed) (names : List (List ℕ)) (place : Place) →
+pub place_meets : (relation : Relation) (nodes : List NodeRecord) (left right : Listed) (names : List (List ℕ)) (place : Place) →
     AllByRecursion (HasItsCases nodes) left.table → AllByRecursion (HasItsCases nodes) right.table →
-    IsFirstPlace nodes left right names place → Meet nodes place.1.0 place.1.1
-place_meets nodes left right names place ours theirs first =
+    IsFirstPlace relation nodes left right names place → Meet nodes place.1.0 place.1.1
+place_meets relation nodes left right names place ours theirs first =
     let d = first.differ in
     let p = d.pair in
     let b = p.beside in
@@ -77,14 +79,21 @@ place_meets nodes left right names place ours theirs first =
           (subst (AreDisjoint nodes place.1.0) b.is apart));
     }
 
-pub answers_are : (old new : List NodeRecord) (left right : Listed) (names : List (List ℕ)) (place : Place)
-    (result : Result Same SameError) → IsFirstPlace old left right names place → AnswersPlace old new place result →
-    ComparesTables old new left right names result
-answers_are old new left right names place (Ok Yes) first h = absurd h
-answers_are old new left right names place (Ok (No name tree)) first h = record {
+pub answers_are : (relation : Relation) (old new : List NodeRecord) (left right : Listed) (names : List (List ℕ)) (place : Place)
+    (result : Result Same SameError) → IsFirstPlace relation old left right names place → AnswersPlace old new place result →
+    ComparesTables relation old new left right names result
+answers_are relation old new left right names place (Ok Yes) first h = absurd h
+answers_are relation old new left right names place (Ok (No name tree)) first h = record {
   place = place;
   first = first;
   named = h.0;
   both = h.1;
 }
-answers_are old new left right names place (Err error) first h = h
+answers_are relation old new left right names place (Err error) first h = h
+
+pub has_tree : (relation : Relation) (old new : List NodeRecord) (left right : Listed) (names : List (List ℕ))
+    (result : Result Same SameError) → ComparesTables relation old new left right names result →
+    IfOk result (HasTree new)
+has_tree relation old new left right names (Ok Yes) h = tt
+has_tree relation old new left right names (Ok (No name tree)) h = h.both.made
+has_tree relation old new left right names (Err error) h = tt

@@ -20,17 +20,20 @@ use Rattle.reqtable_requirements.specs.LineReading.{LineRecord}
 use Rattle.reqtable_requirements.specs.Requirements.{StandsFor}
 use Rattle.reqtable_requirements.specs.declared.requirements.Line.{Line}
 use Rattle.reqtable_cases.specs.Lines.{line_marks}
-use Rattle.reqtable_cases.specs.Requires.{RequireAlike, RequireTheSame, IsFirstDifference, asked_of}
+use Rattle.reqtable_cases.specs.Requires.{asked_of}
 use Rattle.reqtable_table.specs.Cases.{AreCasesOf, cases_under, Builds}
 use Rattle.reqtable_table.specs.Kept.{KeptCase, KeptPackage, kept_under}
 use Rattle.reqtable_table_laws.proofs.CasesOfLines.{cases_of_lines, none_of_lines, range_of_case}
 use Rattle.reqtable_table_laws.proofs.CasesOfLines.{filter_rises}
+use Rattle.reqtable_compare.specs.declared.sides.Relation.{Relation}
 use Rattle.reqtable_compare.specs.declared.sides.Same.{Same}
 use Rattle.reqtable_compare.specs.declared.sides.Same.TheVariants.{Yes, No}
 use Rattle.reqtable_compare.specs.declared.sides.SameError.{SameError}
 use Rattle.reqtable_compare.specs.declared.sides.SameError.TheVariants as errors
 use Rattle.reqtable_compare.specs.declared.sides.Side.TheVariants.{Left, Right}
-use Rattle.reqtable_compare.specs.Compared.{NoneTooMany, MayCompare, Compares, ComparesBy, PassesInAll, TablesSide}
+use Rattle.reqtable_compare.specs.Compared.{NoneTooMany, MayCompare, ComparesBy, PassesInAll, TablesSide}
+use Rattle.reqtable_compare.specs.Related.{Relates}
+use Rattle.reqtable_compare.specs.Relations.{Relate, RelateThroughout, IsFirstUnrelated}
 use Rattle.reqtable_compare.specs.Differences.{Listed, Sums, AgreeOn, IsFirstPlace, Place, IsBoth}
 use Rattle.reqtable_compare.specs.Differences.{ComparesTables, listed}
 use Rattle.reqtable_compare.specs.Refusals.{line_refusal}
@@ -39,6 +42,7 @@ use Rattle.reqtable_compare.specs.Summed.{SummaryRecord, AreSummaries}
 use Rattle.reqtable_compare.specs.Totals.{AreSummed}
 use Rattle.reqtable_compare.proofs.ByNumber.{Rise, HasExtras, extras_said, numbers_alike}
 use Rattle.reqtable_compare.proofs.Comparable.{AreComparable}
+use Rattle.reqtable_compare.proofs.Likeness.{alike_related}
 use Rattle.reqtable_compare.proofs.Summaries.{AreRanged, no_summaries, some_summaries}
 use Rattle.reqtable_compare.proofs.Paired.{all_pass, differs}
 use Rattle.reqtable_packages.proofs.Among.{among_lines, none_too_many, first_too_many, too_many_in_all}
@@ -103,17 +107,17 @@ sums_of : (nodes : List NodeRecord) (names : List (List ℕ)) (side : Listed) (s
 sums_of nodes names side said q summaries of there sums =
     sums_by nodes names side said q summaries (cases_under q side.table) of there refl sums
 
--- ---- both require the same
+-- ---- both require what the relation has
 
-module _ (nodes : List NodeRecord) (limit : ℕ) (names : List (List ℕ)) (left right : Listed)
+module _ (relation : Relation) (nodes : List NodeRecord) (limit : ℕ) (names : List (List ℕ)) (left right : Listed)
     (said others : List LineRecord) (ours : SideOf nodes names left said) (theirs : SideOf nodes names right others)
     (outside : AreOutside limit names said others) where
-  abbrev AlikeOn : List ℕ → Type 0
-  AlikeOn q = (v : Valuation) → RequireAlike (asked_of q v said) (asked_of q v others)
+  abbrev RelatedOn : List ℕ → Type 0
+  RelatedOn q = (v : Valuation) → Relate relation (asked_of q v said) (asked_of q v others)
 
-  agree : (q : List ℕ) → list_any (bytes_eq q) names ≡ true → AgreeOn nodes left right q → AlikeOn q
+  agree : (q : List ℕ) → list_any (bytes_eq q) names ≡ true → AgreeOn relation nodes left right q → RelatedOn q
   agree q there a v =
-      all_pass nodes (lines_of q said) (lines_of q others) a.ours a.theirs
+      all_pass relation nodes (lines_of q said) (lines_of q others) a.ours a.theirs
       (sums_of nodes names left said q a.ours ours there a.our_sums)
       (sums_of nodes names right others q a.theirs theirs there a.their_sums) a.pass v
 
@@ -129,12 +133,13 @@ module _ (nodes : List NodeRecord) (limit : ℕ) (names : List (List ℕ)) (left
       member_by P q n (list_any (bytes_eq q) some) (bytes_eq q n) refl all.0 h (member P q some all.1)
 
   either_way : (front : List (List ℕ)) (q : List ℕ) (b : Bool) → list_any (bytes_eq q) names ≡ b →
-      AllByRecursion (AgreeOn nodes left right) front →
-      (list_any (bytes_eq q) names ≡ true → list_any (bytes_eq q) front ≡ true) → AlikeOn q
-  either_way front q true e all there = agree q e (member (AgreeOn nodes left right) q front all (there e))
-  either_way front q false e all there = outside.alike q e
+      AllByRecursion (AgreeOn relation nodes left right) front →
+      (list_any (bytes_eq q) names ≡ true → list_any (bytes_eq q) front ≡ true) → RelatedOn q
+  either_way front q true e all there = agree q e (member (AgreeOn relation nodes left right) q front all (there e))
+  either_way front q false e all there =
+      (λ v. alike_related relation (asked_of q v said) (asked_of q v others) (outside.alike q e v))
 
-  same_all : AllByRecursion (AgreeOn nodes left right) names → RequireTheSame said others
+  same_all : AllByRecursion (AgreeOn relation nodes left right) names → RelateThroughout relation said others
   same_all all q = either_way names q (list_any (bytes_eq q) names) refl all (λ h. h)
 
   -- ---- or not
@@ -176,14 +181,14 @@ module _ (nodes : List NodeRecord) (limit : ℕ) (names : List (List ℕ)) (left
       (λ h. in_middle n front back)
 
   first_difference : (new : List NodeRecord) (place : Place) (tree : Tree) →
-      IsStrictlySortedBy (slice_cmp nat_cmp) names → IsFirstPlace nodes left right names place →
-      IsBoth nodes new place.1.0 place.1.1 tree → IsFirstDifference said others new place.0 tree
+      IsStrictlySortedBy (slice_cmp nat_cmp) names → IsFirstPlace relation nodes left right names place →
+      IsBoth nodes new place.1.0 place.1.1 tree → IsFirstUnrelated relation said others new place.0 tree
   first_difference new place tree rising first both =
       let d = first.differ in
       let n = place.0 in
       let there : list_any (bytes_eq n) names ≡ true =
       subst (λ ns. list_any (bytes_eq n) ns ≡ true) (sym first.split) (in_middle n first.front first.back) in
-      let all = differs nodes new (lines_of n said) (lines_of n others) d.ours d.theirs place.1.0 place.1.1 tree
+      let all = differs relation nodes new (lines_of n said) (lines_of n others) d.ours d.theirs place.1.0 place.1.1 tree
       (sums_of nodes names left said n d.ours ours there d.our_sums)
       (sums_of nodes names right others n d.theirs theirs there d.their_sums) d.pair both in
       record {
@@ -201,14 +206,14 @@ module _ (nodes : List NodeRecord) (limit : ℕ) (names : List (List ℕ)) (left
 
   pub compares : (new : List NodeRecord) (result : Result Same SameError) →
       IsStrictlySortedBy (slice_cmp nat_cmp) names → MayCompare limit said others →
-      ComparesTables nodes new left right names result → Compares limit new said others result
+      ComparesTables relation nodes new left right names result → Relates relation limit new said others result
   compares new (Ok Yes) rising may h = (may, same_all h)
   compares new (Ok (No name tree)) rising may h = (
     may,
-    subst (λ n. IsFirstDifference said others new n tree) (sym h.named)
+    subst (λ n. IsFirstUnrelated relation said others new n tree) (sym h.named)
         (first_difference new h.place tree rising h.first h.both),
   )
-  compares new (Err error) rising may h = subst (λ e. Compares limit new said others (Err e)) (sym h) tt
+  compares new (Err error) rising may h = subst (λ e. Relates relation limit new said others (Err e)) (sym h) tt
 
 -- ---- a table that is refused
 

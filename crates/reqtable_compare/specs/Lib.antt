@@ -1,4 +1,6 @@
+pub mod Relations
 pub mod Compared
+pub mod Related
 pub mod Refusals
 pub mod RefusedLines
 pub mod Numbered

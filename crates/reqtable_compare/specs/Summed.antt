@@ -6,7 +6,7 @@ use Rattle.std.specs.Ordering.{nat_cmp}
 use Rattle.std.specs.Cmp.Lexicographic.{slice_cmp}
 use Rattle.std.specs.Str.{bytes_eq}
 use Rattle.version_ranges.specs.Point.{Point}
-use Rattle.version_ranges.specs.Held.{HoldSamePoints}
+use Rattle.version_ranges.specs.Held.{HoldSamePoints, holds_at}
 use Rattle.pep440_version.specs.Record.{VersionRecord}
 use Rattle.pep440_version.specs.Order.{version_cmp}
 use Rattle.pep508_tree.specs.Tree.{Tree}
@@ -17,6 +17,8 @@ use Rattle.reqtable_answer.specs.Asks.{has_extra, names_prerelease}
 use Rattle.reqtable_requirements.specs.LineReading.{LineRecord}
 use Rattle.reqtable_cases.specs.Lines.{line_marks, asked_by}
 use Rattle.reqtable_cases.specs.Usable.{is_usable, IsRangeOf}
+use Rattle.reqtable_compare.specs.declared.sides.Relation.{Relation}
+use Rattle.reqtable_compare.specs.declared.sides.Relation.TheVariants as relations
 
 -- a case: whether it has lines, their extras, the range that they share, whether some specifier of them names
 -- a pre-release, and the tree that holds where the case applies
@@ -42,6 +44,35 @@ pub record BothAlike (a b : SummaryRecord) : Type 0 where
 
 abbrev pub Alike : SummaryRecord → SummaryRecord → Type 0
 Alike a b = ((a.some ≡ false) × (b.some ≡ false)) ⊎ BothAlike a b
+
+-- each extra of the second list is one of the first
+abbrev pub HasAll : List (List ℕ) → List (List ℕ) → Type 0
+HasAll extras wanted =
+    (extra : List ℕ) → list_any (bytes_eq extra) wanted ≡ true → list_any (bytes_eq extra) extras ≡ true
+
+-- each point of the first set is one of the second
+abbrev pub HoldsWithin : List (Point VersionRecord) → List (Point VersionRecord) → Type 0
+HoldsWithin a b =
+    (p : Point VersionRecord) → holds_at version_cmp a p ≡ true → holds_at version_cmp b p ≡ true
+
+abbrev pub WithinRange : Option (List (Point VersionRecord)) → Option (List (Point VersionRecord)) → Type 0
+WithinRange (Some a) (Some b) = HoldsWithin a b
+WithinRange (Some a) None = ⊥
+WithinRange None other = ⊥
+
+-- the first case has lines, which require at least what the second requires
+pub record RequiresAtLeast (a b : SummaryRecord) : Type 0 where
+  pub some : a.some ≡ true
+  pub extras : HasAll a.extras b.extras
+  pub range : WithinRange a.range b.range
+
+abbrev pub Covering : SummaryRecord → SummaryRecord → Type 0
+Covering a b = (b.some ≡ false) ⊎ RequiresAtLeast a b
+
+-- what both cases require is as the relation has it
+abbrev pub Fit : Relation → SummaryRecord → SummaryRecord → Type 0
+Fit relations.Alike a b = Alike a b
+Fit relations.Covering a b = Covering a b
 
 abbrev pub some_asks : List Front → Bool
 some_asks [] = false

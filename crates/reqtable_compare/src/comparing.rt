@@ -19,7 +19,8 @@ ghost use Rattle.reqtable_requirements.specs.LineReading.{LineRecord};
 ghost use Rattle.reqtable_requirements.specs.Requirements.{StandsFor};
 ghost use Rattle.reqtable_table.specs.Building.{BuildsBy};
 ghost use Rattle.reqtable_table.specs.Cases.{HasItsCases};
-ghost use Rattle.reqtable_compare.specs.Compared.{Compares, ComparesWithin, ComparesBy, TablesSide};
+ghost use Rattle.reqtable_compare.specs.Compared.{Compares, ComparesWithin, TablesSide};
+ghost use Rattle.reqtable_compare.specs.Related.{RelatesBy, HasTree};
 ghost use Rattle.reqtable_compare.specs.Differences.{FindsPlace, place_seen, listed, AnswersPlace};
 ghost use Rattle.reqtable_compare.specs.Differences.{ComparesTables};
 ghost use Rattle.reqtable_compare.specs.RefusedLines.{lines_refusal};
@@ -29,7 +30,7 @@ ghost use Rattle.reqtable_compare.specs.Settled.{AreOpen};
 use crate::pairing::{Meeting, first_trees};
 use crate::refusing::first_refusal;
 use crate::settled::open_packages;
-use crate::sides::{Same, SameError, Side};
+use crate::sides::{Relation, Same, SameError, Side};
 use crate::summing::summaries;
 use pep508_name::PackageName;
 use pep508_tree::Interner;
@@ -39,8 +40,8 @@ use reqtable_requirements::{Line, Requirements};
 use reqtable_table::{Table, TableError};
 use std::alloc::{AllocError, Global};
 
-/// A place at which two lists require different things: a package, and the trees of two cases that hold
-/// together.
+/// A place at which two lists don't require what a relation has: a package, and the trees of two cases
+/// that hold together.
 #[derive(Drop)]
 struct Place {
     name: PackageName,
@@ -104,11 +105,7 @@ pub fn same<'a>(
         Compares limit interner.new.nodes said others result }
     ensures keeps { Extends interner.old.nodes interner.new.nodes }
 {
-    let bounds = Bounds {
-        limit,
-        in_all: None,
-    };
-    compare(alloc, left, right, interner, bounds)
+    related(alloc, Relation::Alike, left, right, interner, limit, None)
 }
 
 /// Whether two lists require the same, as `same` finds it, with no more than `in_all` cases built of either
@@ -137,29 +134,49 @@ pub fn same_within<'a>(
         ComparesWithin limit in_all interner.new.nodes said others result }
     ensures keeps { Extends interner.old.nodes interner.new.nodes }
 {
-    let bounds = Bounds {
+    related(
+        alloc,
+        Relation::Alike,
+        left,
+        right,
+        interner,
         limit,
-        in_all: Some(in_all),
-    };
-    compare(alloc, left, right, interner, bounds)
+        Some(in_all),
+    )
 }
 
-/// Whether two lists require the same, with no more cases than there may be.
-fn compare(
+/// Whether two lists require of each package what the relation has, under every valuation of markers. If
+/// not, the result has the first package of which they don't, and the marker of the first pair of its
+/// cases at which they don't.
+///
+/// As `same`, which is this call with `Relation::Alike`, and, where the cases in all are bounded, as
+/// `same_within`: a package of which both lists have equal lines is settled by these here too. Of other
+/// packages a case needs no comparison but that with the case of the other side that has the same tree, if
+/// there is one and both require what the relation has. For `Relation::Covering` two cases are compared by
+/// an intersection of their ranges and a list of the extras of both.
+///
+/// # Errors
+///
+/// Those of `same` and, with a bound, of `same_within`.
+pub fn related<'a>(
     alloc: Global,
-    left: &Requirements,
-    right: &Requirements,
+    relation: Relation,
+    left: &'a Requirements,
+    right: &'a Requirements,
     interner: &mut Interner,
-    bounds: Bounds,
+    limit: u64,
+    in_all: Option<u64>,
 ) -> Result<Same, SameError>
     requires left { AreOfNodes interner.old.nodes left.now }
     requires right { AreOfNodes interner.old.nodes right.now }
-    ensures compared { (vars : Variables) (said others : List LineRecord) →
+    ensures related { (vars : Variables) (said others : List LineRecord) →
         AllZip (StandsFor vars interner.old.nodes) left.now said →
         AllZip (StandsFor vars interner.old.nodes) right.now others →
-        ComparesBy bounds.limit bounds.in_all interner.new.nodes said others result }
+        RelatesBy relation limit in_all interner.new.nodes said others result }
+    ensures tree { IfOk result (HasTree interner.new.nodes) }
     ensures keeps { Extends interner.old.nodes interner.new.nodes }
 {
+    let bounds = Bounds { limit, in_all };
     if let Some(refused) = first_refusal(alloc, left.lines(), right.lines())? {
         return Err(SameError::Line {
             side: refused.side,
@@ -168,12 +185,13 @@ fn compare(
         });
     }
     let names = open_packages(alloc, left.lines(), right.lines(), bounds.limit)?;
-    compared_on(alloc, left, right, &names, interner, bounds)
+    compared_on(alloc, relation, left, right, &names, interner, bounds)
 }
 
 /// Compares two lists by the packages that aren't settled by equal lines.
 fn compared_on(
     alloc: Global,
+    relation: Relation,
     left: &Requirements,
     right: &Requirements,
     names: &[&PackageName],
@@ -187,7 +205,8 @@ fn compared_on(
     ensures compared { (vars : Variables) (said others : List LineRecord) →
         AllZip (StandsFor vars interner.old.nodes) left.now said →
         AllZip (StandsFor vars interner.old.nodes) right.now others →
-        ComparesBy bounds.limit bounds.in_all interner.new.nodes said others result }
+        RelatesBy relation bounds.limit bounds.in_all interner.new.nodes said others result }
+    ensures tree { IfOk result (HasTree interner.new.nodes) }
     ensures keeps { Extends interner.old.nodes interner.new.nodes }
 {
     left.are_read();
@@ -196,6 +215,7 @@ fn compared_on(
     let right_table = side_table(alloc, Side::Right, right, names, interner, bounds)?;
     compared(
         alloc,
+        relation,
         left,
         &left_table,
         right,
@@ -259,6 +279,7 @@ fn table_of(
 /// Compares two lists by the tables of some packages.
 fn compared<'a>(
     alloc: Global,
+    relation: Relation,
     left: &'a Requirements,
     left_table: &Table,
     right: &'a Requirements,
@@ -268,7 +289,7 @@ fn compared<'a>(
 ) -> Result<Same, SameError>
     requires left { AllByRecursion (HasItsCases interner.old.nodes) left_table.now }
     requires right { AllByRecursion (HasItsCases interner.old.nodes) right_table.now }
-    ensures compared { ComparesTables interner.old.nodes interner.new.nodes
+    ensures compared { ComparesTables relation interner.old.nodes interner.new.nodes
         (listed left.now left_table.now) (listed right.now right_table.now)
         (map (λ name. name.now) names.now) result }
     ensures keeps { Extends interner.old.nodes interner.new.nodes }
@@ -277,6 +298,7 @@ fn compared<'a>(
     right.are_read();
     let place = first_place(
         alloc,
+        relation,
         left.lines(),
         left_table,
         right.lines(),
@@ -308,9 +330,10 @@ fn difference(alloc: Global, place: Place, interner: &mut Interner) -> Result<Sa
     })
 }
 
-/// The first of some packages of which two lists require different things.
+/// The first of some packages of which two lists don't require what the relation has.
 fn first_place(
     alloc: Global,
+    relation: Relation,
     left: &[Line],
     left_table: &Table,
     right: &[Line],
@@ -322,13 +345,13 @@ fn first_place(
     requires right_rises { IsStrictlySortedBy nat_cmp (map (λ line. line.number) right.now) }
     requires left_cases { AllByRecursion (HasItsCases interner.now.nodes) left_table.now }
     requires right_cases { AllByRecursion (HasItsCases interner.now.nodes) right_table.now }
-    ensures { IfOk result (λ place. FindsPlace interner.now.nodes (listed left.now left_table.now)
+    ensures { IfOk result (λ place. FindsPlace relation interner.now.nodes (listed left.now left_table.now)
         (listed right.now right_table.now) (map (λ name. name.now) names.now) (option_map place_seen place)) }
 {
     for name in names {
         let ours = summaries(alloc, left, left_table, name)?;
         let theirs = summaries(alloc, right, right_table, name)?;
-        if let Some(meeting) = first_trees(alloc, interner, &ours, &theirs)? {
+        if let Some(meeting) = first_trees(alloc, relation, interner, &ours, &theirs)? {
             let package = name.try_clone(alloc)?;
             return Ok(Some(Place {
                 name: package,

@@ -1,4 +1,5 @@
-//! Whether two requirement lists require the same, and if not, of which package and where they differ.
+//! Whether two requirement lists require the same, or the left one whatever the right one does, and if
+//! not, of which package and where they don't.
 #![tactic(auto)]
 
 mod comparing;
@@ -11,5 +12,5 @@ mod sides;
 mod summary;
 mod summing;
 
-pub use comparing::{same, same_within};
-pub use sides::{LineCause, Same, SameError, Side};
+pub use comparing::{related, same, same_within};
+pub use sides::{LineCause, Relation, Same, SameError, Side};

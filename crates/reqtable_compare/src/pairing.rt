@@ -1,17 +1,20 @@
-//! The first pair of cases that hold together and require different things.
+//! The first pair of cases that hold together and don't require what a relation has.
 //!
-//! A case whose tree is also a case's on the other side, which requires the same, needs no other comparison.
-//! If there are few others, each is compared with all cases on the other side. If there are many, one diagram
-//! of both sides' cases tells which pairs hold together, and only those are compared; but where very many do,
-//! all are compared, so that no long list is kept. A conjunction is made of the one pair that is reported.
+//! A case whose tree is also a case's on the other side, where both require what the relation has, needs no
+//! other comparison. If there are few others, each is compared with all cases on the other side. If there are
+//! many, one diagram of both sides' cases tells which pairs hold together, and only those are compared; but
+//! where very many do, all are compared, so that no long list is kept. A conjunction is made of the one pair
+//! that is reported.
 
 ghost use Rattle.std.specs.Prelude.{◌≡◌, map, List, IfOk, IfSome, IsTrue};
+ghost use Rattle.std.specs.List.{AllByRecursion};
 ghost use Rattle.pep508_tree.specs.Meaning.{IsTree, NodeRecord};
 ghost use Rattle.pep508_cases.specs.Pairs.{AreMeeting};
 ghost use Rattle.reqtable_compare.specs.Seen.{summary_record};
 ghost use Rattle.reqtable_compare.specs.Pairs.{Decides, FindsOther, FindsTrees, AreOfTrees, AreApart};
-ghost use Rattle.reqtable_compare.specs.Pairs.{PassesAll, ArePartners, case_trees};
+ghost use Rattle.reqtable_compare.specs.Pairs.{PassesAll, ArePartners, case_trees, ExtrasRise};
 
+use crate::sides::Relation;
 use crate::summary::Summary;
 use pep508_cases::meeting_pairs;
 use pep508_disjointness::MarkerTreeDisjointness;
@@ -31,41 +34,43 @@ const LISTED: u64 = 16;
 /// The indices of one side's cases, by their trees.
 type Places = HashMap<MarkerTree, usize>;
 
-/// The trees of two cases that hold together and require different things.
+/// The trees of two cases that hold together and don't require what a relation has.
 #[derive(Clone, Copy)]
 pub(crate) struct Meeting {
     pub(crate) one: MarkerTree,
     pub(crate) other: MarkerTree,
 }
 
-/// The trees of the first pair of cases that hold together and require different things, by the left side's
-/// cases and then by the right side's. `None` if each pair requires the same or never holds together.
+/// The trees of the first pair of cases that hold together and don't require what the relation has, by the
+/// left side's cases and then by the right side's. `None` if each pair does or never holds together.
 ///
-/// A case whose tree is also a case's on the other side, which requires the same, is compared with no other,
-/// since those never hold together with it: so sides that are equal need as many comparisons as they have
-/// cases. If there are many other cases, one comparison is needed for each pair of cases that hold together,
-/// and the time of the diagram of all cases. If there are few, or very many such pairs, k and m cases need at
-/// most k * m comparisons, and one check whether two trees are disjoint for each pair that requires different
-/// things.
+/// A case whose tree is also a case's on the other side, where both require what the relation has, is
+/// compared with no other, since those never hold together with it: so sides that are equal need as many
+/// comparisons as they have cases. If there are many other cases, one comparison is needed for each pair of
+/// cases that hold together, and the time of the diagram of all cases. If there are few, or very many such
+/// pairs, k and m cases need at most k * m comparisons, and one check whether two trees are disjoint for each
+/// pair that doesn't require what the relation has.
 pub(crate) fn first_trees(
     alloc: Global,
+    relation: Relation,
     interner: &Interner,
     left: &[Summary],
     right: &[Summary],
 ) -> Result<Option<Meeting>, AllocError>
     requires left { AreOfTrees interner.now.nodes (map summary_record left.now) }
     requires right { AreOfTrees interner.now.nodes (map summary_record right.now) }
+    requires rise { AllByRecursion ExtrasRise (map summary_record left.now) }
     requires apart { AreApart interner.now.nodes (map summary_record right.now) }
-    ensures { IfOk result (FindsTrees interner.now.nodes (map summary_record left.now)
+    ensures { IfOk result (FindsTrees relation interner.now.nodes (map summary_record left.now)
         (map summary_record right.now)) }
 {
     let places = places_of(alloc, right)?;
-    if are_many(left, right, &places) {
+    if are_many(alloc, relation, left, right, &places)? {
         if let Some(pairs) = listed_pairs(alloc, interner, left, right)? {
-            return first_listed(alloc, interner, left, right, &pairs);
+            return first_listed(alloc, relation, interner, left, right, &pairs);
         }
     }
-    first_of_all(alloc, interner, left, right, &places)
+    first_of_all(alloc, relation, interner, left, right, &places)
 }
 
 /// The index of each case by its tree, or nothing if there are only a few cases.
@@ -81,32 +86,65 @@ fn places_of(alloc: Global, right: &[Summary]) -> Result<Places, AllocError> {
 }
 
 /// Whether the cases that have no partner need many comparisons.
-fn are_many(left: &[Summary], right: &[Summary], places: &Places) -> bool {
+fn are_many(
+    alloc: Global,
+    relation: Relation,
+    left: &[Summary],
+    right: &[Summary],
+    places: &Places,
+) -> Result<bool, AllocError>
+    requires { AllByRecursion ExtrasRise (map summary_record left.now) }
+{
     let mut others: usize = 0;
     for one in left {
-        if !has_partner(places, one, right) {
+        let has = has_partner(alloc, relation, places, one, right)?;
+        if !has {
             others = others.saturating_add(1);
         }
     }
-    others.saturating_mul(right.len()) > MANY
+    Ok(others.saturating_mul(right.len()) > MANY)
 }
 
-/// Whether a case of the other side has the same tree and requires the same.
-fn has_partner(places: &Places, one: &Summary, right: &[Summary]) -> bool
-    ensures { (nodes : List NodeRecord) → AreApart nodes (map summary_record right.now) → IsTrue result →
-        PassesAll nodes (map summary_record right.now) (summary_record one.now) }
+/// Whether a case of the other side has the same tree, and both require what the relation has.
+fn has_partner(
+    alloc: Global,
+    relation: Relation,
+    places: &Places,
+    one: &Summary,
+    right: &[Summary],
+) -> Result<bool, AllocError>
+    requires { ExtrasRise (summary_record one.now) }
+    ensures { IfOk result (λ has. (nodes : List NodeRecord) → AreApart nodes (map summary_record right.now) →
+        IsTrue has → PassesAll relation nodes (map summary_record right.now) (summary_record one.now)) }
 {
     match places.get(&one.tree) {
-        Some(place) => *place < right.len() && is_partner(one, &right[*place]),
-        None => false,
+        Some(place) => {
+            if *place < right.len() {
+                let is = is_partner(alloc, relation, one, &right[*place])?;
+                return Ok(is);
+            }
+            Ok(false)
+        }
+        None => Ok(false),
     }
 }
 
-/// Whether both cases have the same tree and require the same.
-fn is_partner(one: &Summary, other: &Summary) -> bool
-    ensures { IsTrue result → ArePartners (summary_record one.now) (summary_record other.now) }
+/// Whether both cases have the same tree, and require what the relation has.
+fn is_partner(
+    alloc: Global,
+    relation: Relation,
+    one: &Summary,
+    other: &Summary,
+) -> Result<bool, AllocError>
+    requires { ExtrasRise (summary_record one.now) }
+    ensures { IfOk result (λ is.
+        IsTrue is → ArePartners relation (summary_record one.now) (summary_record other.now)) }
 {
-    one.tree == other.tree && one.is_alike(other)
+    if one.tree != other.tree {
+        return Ok(false);
+    }
+    let fits = one.fits(alloc, relation, other)?;
+    Ok(fits)
 }
 
 /// The pairs of cases that may hold together, by their indices. `None` if there are very many such pairs.
@@ -144,9 +182,10 @@ fn trees_of(alloc: Global, cases: &[Summary]) -> Result<Vec<MarkerTree>, AllocEr
     Ok(trees)
 }
 
-/// The trees of the first of some pairs that holds together and requires different things.
+/// The trees of the first of some pairs that holds together and doesn't require what the relation has.
 fn first_listed(
     alloc: Global,
+    relation: Relation,
     interner: &Interner,
     left: &[Summary],
     right: &[Summary],
@@ -154,15 +193,16 @@ fn first_listed(
 ) -> Result<Option<Meeting>, AllocError>
     requires left { AreOfTrees interner.now.nodes (map summary_record left.now) }
     requires right { AreOfTrees interner.now.nodes (map summary_record right.now) }
+    requires rise { AllByRecursion ExtrasRise (map summary_record left.now) }
     requires pairs { AreMeeting interner.now.nodes
         (case_trees (map summary_record left.now)) (case_trees (map summary_record right.now)) pairs.now }
-    ensures { IfOk result (FindsTrees interner.now.nodes (map summary_record left.now)
+    ensures { IfOk result (FindsTrees relation interner.now.nodes (map summary_record left.now)
         (map summary_record right.now)) }
 {
     for pair in pairs {
         let ours = &left[pair.0];
         let theirs = &right[pair.1];
-        if !passes(alloc, interner, ours, theirs)? {
+        if !passes(alloc, relation, interner, ours, theirs)? {
             return Ok(Some(Meeting {
                 one: ours.tree,
                 other: theirs.tree,
@@ -172,9 +212,10 @@ fn first_listed(
     Ok(None)
 }
 
-/// The trees of the first of all pairs that holds together and requires different things.
+/// The trees of the first of all pairs that holds together and doesn't require what the relation has.
 fn first_of_all(
     alloc: Global,
+    relation: Relation,
     interner: &Interner,
     left: &[Summary],
     right: &[Summary],
@@ -182,12 +223,13 @@ fn first_of_all(
 ) -> Result<Option<Meeting>, AllocError>
     requires left { AreOfTrees interner.now.nodes (map summary_record left.now) }
     requires right { AreOfTrees interner.now.nodes (map summary_record right.now) }
+    requires rise { AllByRecursion ExtrasRise (map summary_record left.now) }
     requires apart { AreApart interner.now.nodes (map summary_record right.now) }
-    ensures { IfOk result (FindsTrees interner.now.nodes (map summary_record left.now)
+    ensures { IfOk result (FindsTrees relation interner.now.nodes (map summary_record left.now)
         (map summary_record right.now)) }
 {
     for one in left {
-        if let Some(other) = first_other(alloc, interner, one, right, places)? {
+        if let Some(other) = first_other(alloc, relation, interner, one, right, places)? {
             return Ok(Some(Meeting {
                 one: one.tree,
                 other,
@@ -197,43 +239,50 @@ fn first_of_all(
     Ok(None)
 }
 
-/// The tree of the first case on the right that holds together with `one` and requires something else.
+/// The tree of the first case on the right that holds together with `one`, where both don't require what the
+/// relation has.
 fn first_other(
     alloc: Global,
+    relation: Relation,
     interner: &Interner,
     one: &Summary,
     right: &[Summary],
     places: &Places,
 ) -> Result<Option<MarkerTree>, AllocError>
     requires one { IsTree interner.now.nodes one.now.tree }
+    requires rise { ExtrasRise (summary_record one.now) }
     requires right { AreOfTrees interner.now.nodes (map summary_record right.now) }
     requires apart { AreApart interner.now.nodes (map summary_record right.now) }
-    ensures { IfOk result (FindsOther interner.now.nodes (summary_record one.now)
+    ensures { IfOk result (FindsOther relation interner.now.nodes (summary_record one.now)
         (map summary_record right.now)) }
 {
-    if has_partner(places, one, right) {
+    let has = has_partner(alloc, relation, places, one, right)?;
+    if has {
         return Ok(None);
     }
     for other in right {
-        if !passes(alloc, interner, one, other)? {
+        if !passes(alloc, relation, interner, one, other)? {
             return Ok(Some(other.tree));
         }
     }
     Ok(None)
 }
 
-/// Whether two cases require the same or never hold together.
+/// Whether two cases require what the relation has, or never hold together.
 fn passes(
     alloc: Global,
+    relation: Relation,
     interner: &Interner,
     one: &Summary,
     other: &Summary,
 ) -> Result<bool, AllocError>
     requires one { IsTree interner.now.nodes one.now.tree }
+    requires rise { ExtrasRise (summary_record one.now) }
     requires other { IsTree interner.now.nodes other.now.tree }
-    ensures { IfOk result (Decides interner.now.nodes (summary_record one.now) (summary_record other.now)) }
+    ensures { IfOk result (Decides relation interner.now.nodes (summary_record one.now)
+        (summary_record other.now)) }
 {
-    if one.is_alike(other) {
+    if one.fits(alloc, relation, other)? {
         return Ok(true);
     }
     one.tree.is_disjoint(alloc, interner, other.tree)

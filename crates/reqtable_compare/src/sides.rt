@@ -16,6 +16,16 @@ pub enum Side {
     Right,
 }
 
+/// What two lists are compared by.
+#[derive(Clone, Copy, Debug, PartialEq, Eq)]
+pub enum Relation {
+    /// Both require the same.
+    Alike,
+    /// The left list requires whatever the right one does: each of its packages, at least with the same
+    /// extras, and with no points of versions that the right one doesn't accept.
+    Covering,
+}
+
 /// Why a line can't be compared by version ranges.
 #[derive(Clone, Copy, Debug, PartialEq, Eq)]
 pub enum LineCause {
@@ -55,7 +65,7 @@ impl fmt::Display for LineCause {
     }
 }
 
-/// Whether two lists require the same, and if not, where they differ.
+/// Whether two lists require the same, or what another relation has, and if not, where they don't.
 #[derive(Debug, Drop)]
 pub enum Same {
     /// They require the same in every environment, with any extras.

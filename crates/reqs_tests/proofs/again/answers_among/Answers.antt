@@ -9,7 +9,6 @@ use Rattle.reqtable_answer.specs.Rows.{row_seen}
 use Rattle.reqtable_answer.specs.declared.answer.Answer.{Answer}
 use Rattle.reqtable_requirements.specs.Asks.{asks_of}
 use Rattle.reqtable_table.proofs.Packages.{zip_pushed}
-use Rattle.reqtable_table.proofs.Told.{told_at_first}
 use Rattle.reqs_tests.proofs.again.answers_among.Goals as goal
 
 pub loop-environment-init : goal.loop-environment-init
@@ -21,10 +20,10 @@ loop-environment-init g c = record {
     runs = λ all are. are;
   };
   are = c.in_ok-runs.ensures.are;
-  told = told_at_first _ c.args.table.now c.in_ok-runs.runs c.in_ok-runs.ensures.are c.in_ok-runs.ensures.untold;
+  told = c.what_is_told_lasts.ensures.first c.in_ok-runs.runs c.args.table.now c.in_ok-runs.ensures.are c.in_ok-runs.ensures.untold;
   candidates = c.in_ok-runs.ensures.candidates ∙ c.in_ok-ordered.ensures;
   answers = λ said admits k by. subst (λ (xs : List Answer). AllZip {A = EnvironmentRecord} (λ environment answer.
-      IsAnswer admits (asks_of (valuation_of environment []) said) c.args.candidates.now (map row_seen answer.rows.items)) [] xs) (sym c.new-answers.ensures.items) tt;
+      IsAnswer admits (asks_of (valuation_of environment c.args.extras.now) said) c.args.candidates.now (map row_seen answer.rows.items)) [] xs) (sym c.new-answers.ensures.items) tt;
 }
 
 pub loop-environment-preserved : goal.loop-environment-preserved
@@ -52,7 +51,7 @@ loop-environment-preserved g c =
           c.loop-environment.answers.items _ environment answer upto c.in_ok-push.ensures.items
           (c.loop-environment.invariant.answers said admits k by)
           (subst
-          (λ (cs : List Candidate). IsAnswer admits (asks_of (valuation_of environment []) said) cs (map row_seen answer.rows.items))
+          (λ (cs : List Candidate). IsAnswer admits (asks_of (valuation_of environment c.args.extras.now) said) cs (map row_seen answer.rows.items))
           c.loop-environment.invariant.candidates
           (c.in_ok-answer.ensures.answered said admits (before.lines said k) by));
     }
@@ -63,6 +62,6 @@ returns g c = λ said admits k by.
     take_all c.loop-environment.environment-index c.args.environments.now (omega (arith, c.loop-environment-test.false)) in
     subst
     (λ (es : List EnvironmentRecord). AllZip (λ environment (answer : Answer).
-    IsAnswer admits (asks_of (valuation_of environment []) said) c.args.candidates.now (map row_seen answer.rows.items))
+    IsAnswer admits (asks_of (valuation_of environment c.args.extras.now) said) c.args.candidates.now (map row_seen answer.rows.items))
     es c.loop-environment.answers.items) all
     (c.loop-environment.invariant.answers said admits k by)

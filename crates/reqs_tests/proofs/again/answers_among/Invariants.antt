@@ -19,6 +19,6 @@ invariant-loop-environment g l = record {
   candidates : l.runs.candidates ≡ l.candidates;
   answers : (said : List LineRecord) (admits : Admits) → KeepsAll l.interner.nodes l.fn.table said →
       AnswersBy (goal.F-post g l.admission) admits →
-      AllZip (λ environment answer. IsAnswer admits (asks_of (valuation_of environment []) said) l.candidates
+      AllZip (λ environment answer. IsAnswer admits (asks_of (valuation_of environment l.extras) said) l.candidates
       (map row_seen answer.rows.items)) (take l.environment-index l.environments) l.answers.items;
 }

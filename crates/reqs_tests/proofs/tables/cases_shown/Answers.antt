@@ -1,5 +1,4 @@
-use Rattle.reqtable_requirements.proofs.Asked.{are_of_nodes}
 use Rattle.reqs_tests.proofs.tables.cases_shown.Goals as goal
 
 pub build-requires : goal.build-requires
-build-requires c = record { trees = are_of_nodes _ _ _ c.in-Ok.ensures.answered.0 c.in-Ok.ensures.answered.2 }
+build-requires c = record { trees = c.lines_that_were_read_are_of_the_nodes.ensures _ _ _ c.in-Ok.ensures.answered.0 c.in-Ok.ensures.answered.2 }

@@ -10,8 +10,8 @@ difference-requires-clause-one c =
     let left = listed c.args.left.now c.args.left_table.now in
     let right = listed c.args.right.now c.args.right_table.now in
     let names = map (λ name. name.now) c.args.names.now in
-    (place_meets nodes left right names (place_seen c.in-Some.place) c.requires.left c.requires.right
-    (place_found nodes c.lines.result.now c.args.left.now c.lines-2.result.now c.args.right.now c.args.left_table.now
+    (place_meets c.args.relation nodes left right names (place_seen c.in-Some.place) c.requires.left c.requires.right
+    (place_found c.args.relation nodes c.lines.result.now c.args.left.now c.lines-2.result.now c.args.right.now c.args.left_table.now
     c.args.right_table.now names names c.in_ok-place.place c.in-Some.place
     c.lines.ensures c.lines-2.ensures refl c.in-Some.is
     c.in_ok-place.ensures)).made
@@ -22,8 +22,8 @@ difference-requires-clause-other c =
     let left = listed c.args.left.now c.args.left_table.now in
     let right = listed c.args.right.now c.args.right_table.now in
     let names = map (λ name. name.now) c.args.names.now in
-    (place_meets nodes left right names (place_seen c.in-Some.place) c.requires.left c.requires.right
-    (place_found nodes c.lines.result.now c.args.left.now c.lines-2.result.now c.args.right.now c.args.left_table.now
+    (place_meets c.args.relation nodes left right names (place_seen c.in-Some.place) c.requires.left c.requires.right
+    (place_found c.args.relation nodes c.lines.result.now c.args.left.now c.lines-2.result.now c.args.right.now c.args.left_table.now
     c.args.right_table.now names names c.in_ok-place.place c.in-Some.place
     c.lines.ensures c.lines-2.ensures refl c.in-Some.is
     c.in_ok-place.ensures)).other_made
@@ -34,8 +34,8 @@ returns-in-Some-clause-compared c =
     let left = listed c.args.left.now c.args.left_table.now in
     let right = listed c.args.right.now c.args.right_table.now in
     let names = map (λ name. name.now) c.args.names.now in
-    answers_are nodes c.difference.new.interner.nodes left right names (place_seen c.in-Some.place) c.difference.result
-    (place_found nodes c.lines.result.now c.args.left.now c.lines-2.result.now c.args.right.now c.args.left_table.now
+    answers_are c.args.relation nodes c.difference.new.interner.nodes left right names (place_seen c.in-Some.place) c.difference.result
+    (place_found c.args.relation nodes c.lines.result.now c.args.left.now c.lines-2.result.now c.args.right.now c.args.left_table.now
     c.args.right_table.now names names c.in_ok-place.place c.in-Some.place
     c.lines.ensures c.lines-2.ensures refl c.in-Some.is
     c.in_ok-place.ensures)

@@ -6,5 +6,5 @@ use Rattle.reqtable_compare.proofs.pairing.first_listed.Given as goal
 
 abbrev pub invariant-loop-pair : goal.invariant-loop-pair
 invariant-loop-pair l =
-    AllByRecursion (PassAt l.interner.nodes (map summary_record l.left) (map summary_record l.right))
+    AllByRecursion (PassAt l.fn.relation l.interner.nodes (map summary_record l.left) (map summary_record l.right))
     (take l.pair-index l.pairs)

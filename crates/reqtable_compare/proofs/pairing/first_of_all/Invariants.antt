@@ -6,4 +6,4 @@ use Rattle.reqtable_compare.proofs.pairing.first_of_all.Given as goal
 
 abbrev pub invariant-loop-one : goal.invariant-loop-one
 invariant-loop-one l =
-    AllByRecursion (PassesAll l.interner.nodes (map summary_record l.right)) (map summary_record (take l.one-index l.left))
+    AllByRecursion (PassesAll l.fn.relation l.interner.nodes (map summary_record l.right)) (map summary_record (take l.one-index l.left))

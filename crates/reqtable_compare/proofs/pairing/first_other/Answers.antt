@@ -20,7 +20,7 @@ returns-then-not-branch c =
       back = parts.0;
       split = parts.1;
       before = c.loop-other.invariant;
-      fails = subst (Decides c.args.interner.now.nodes (summary_record c.args.one.now) (summary_record c.other-item.result))
+      fails = subst (Decides c.args.relation c.args.interner.now.nodes (summary_record c.args.one.now) (summary_record c.other-item.result))
           c.if-not-branch.true c.in_ok-passes.ensures;
       is = refl;
     }

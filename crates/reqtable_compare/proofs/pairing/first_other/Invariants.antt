@@ -5,4 +5,4 @@ use Rattle.reqtable_compare.proofs.pairing.first_other.Given as goal
 
 abbrev pub invariant-loop-other : goal.invariant-loop-other
 invariant-loop-other l =
-    PassesAll l.interner.nodes (map summary_record (take l.other-index l.right)) (summary_record l.one)
+    PassesAll l.fn.relation l.interner.nodes (map summary_record (take l.other-index l.right)) (summary_record l.one)

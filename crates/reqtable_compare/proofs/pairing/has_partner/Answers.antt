@@ -10,5 +10,5 @@ returns-then-place-right c nodes apart is =
     let place = c.in-Some.place.now in
     let other = c.index-right-place.result in
     let parts = split_at summary_record right place other c.if-place-right.true c.index-right-place.is in
-    passes_beside nodes (summary_record c.args.one.now) (summary_record other) (map summary_record right)
-    (map summary_record (take place right)) parts.0 parts.1 (c.is_partner.ensures is) apart
+    passes_beside c.args.relation nodes (summary_record c.args.one.now) (summary_record other) (map summary_record right)
+    (map summary_record (take place right)) parts.0 parts.1 (c.in_ok-is-in-Some.ensures is) apart

@@ -1,0 +1,3 @@
+pub mod Applied
+pub mod Uncovered
+pub mod Through
