@@ -26,9 +26,3 @@ pub joined_none : {T C : Type 0} (last : Tree) (later : List (Branch T C)) (tree
 joined_none last [] trees e = refl
 joined_none last (b ∷ later) [] e = refl
 joined_none last (b ∷ later) (t ∷ trees) e = absurd (omega arith)
-
-pub joined_no_more : {T C : Type 0} (out : List (Branch T Tree)) (last : Tree) (old new : List (Branch T C))
-    (trees : List Tree) (whole : List (Branch T Tree)) → out ++ joined last old trees ≡ whole →
-    length trees ≡ 0 → out ++ joined last new trees ≡ whole
-joined_no_more out last old new trees whole h e =
-    ap (λ branches. out ++ branches) (joined_none last new trees e ∙ sym (joined_none last old trees e)) ∙ h

@@ -25,6 +25,7 @@ pub fn children_of<T, C: Copy>(
 }
 
 /// Returns branches between the same endpoints with other trees. Equal neighbours are joined.
+#[tactic(auto, using(crate::proofs::Joins::joined_none))]
 pub fn joined<T: Drop, C: Drop>(
     alloc: Global,
     first: MarkerTree,
@@ -37,16 +38,18 @@ pub fn joined<T: Drop, C: Drop>(
     let mut last = first;
     let mut left = trees;
     for branch in later {
-        if let Some((tree, rest)) = left.split_first() {
-            left = rest;
-            if tree.cmp_places(last).is_ne() {
-                last = *tree;
-                branches.push(Branch {
-                    boundary: branch.boundary,
-                    child: last,
-                })?;
-            }
+        let Some((tree, rest)) = left.split_first() else {
+            return Ok(branches);
+        };
+        left = rest;
+        if tree.cmp_places(last).is_eq() {
+            continue;
         }
+        last = *tree;
+        branches.push(Branch {
+            boundary: branch.boundary,
+            child: last,
+        })?;
     }
     Ok(branches)
 }

@@ -1,3 +1,4 @@
 pub mod Together
 pub mod Sorting
 pub mod One
+pub mod Sifting

@@ -7,10 +7,12 @@ mod exact;
 pub mod laws;
 mod one;
 mod shared;
+mod sieve;
 mod simple;
 mod single;
 mod specifier_sets;
 
 pub use one::{OneRange, one_range};
 pub use shared::shared_range;
+pub use sieve::{Sieve, sieve_of};
 pub use specifier_sets::has_range;

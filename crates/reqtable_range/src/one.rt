@@ -118,7 +118,7 @@ fn each_takes(
 }
 
 /// Whether the range contains the version without its local part.
-fn holds_public(
+pub(crate) fn holds_public(
     alloc: Global,
     range: &Ranges<Version>,
     version: &Version,
