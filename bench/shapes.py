@@ -8,6 +8,9 @@ PROGRAM is crates/reqs_cli/out/reqs_cli where none is named (`./build` makes it)
 
     exact           32,000 lines `pip!=K.5` and then `pip===0.0`, so that no range decides a candidate, and `pip K`
     bounded         the same lines and then `pip<1`, with candidates `pip K.0+cpu` and `pip K.0.post1`
+    beside-bound    32,000 lines `pip!=K.0` in an order at random and then `pip<N.post1`, which takes the range of them all
+                    away, with candidates `pip K.0`: each is rejected by a line of its own
+    local-cases     32,000 lines `pip!=K.0+cpu` in an order at random, with candidates `pip K.0+cpu`
     specifiers-100  12 lines of one package, an extra each, each of 100 specifiers `!=`: 4,096 cases
     specifiers-1000 the same of 1,000 specifiers
     packages        100 packages, each of 12 lines with an extra each
@@ -27,6 +30,7 @@ at most what stands beside it. The exit status is 1 where one is more, or where 
 import argparse
 import json
 import os
+import random
 import sys
 import tempfile
 
@@ -36,7 +40,7 @@ sys.path.insert(0, HERE)
 from run import peak, timed
 from workload import ENVIRONMENT
 
-MANY, FEW = 32000, 12
+MANY, FEW, SEED = 32000, 12, 7
 EXTRAS = [f"e{at}" for at in range(FEW)]
 
 
@@ -97,6 +101,14 @@ def with_many_lines(last, forms, row):
     return Shape([*lines, last], candidates, [row], 0.3)
 
 
+def with_lines_at_random(form, last=()):
+    """Each line rejects one candidate, and no candidate is left."""
+    numbers = list(range(MANY))
+    random.Random(SEED).shuffle(numbers)
+    lines = [f"pip!={form.format(number)}" for number in numbers]
+    return Shape([*lines, *last], [f"pip {form.format(number)}" for number in range(MANY)], ["pip none"], 0.3)
+
+
 def with_post_releases():
     """Each candidate is greater than the one before it and accepted by each line."""
     lines = [f"pip<{MANY + number}.post1" for number in range(MANY)]
@@ -149,6 +161,8 @@ def two_lists():
 SHAPES = {
     "exact": lambda: with_many_lines("pip===0.0", ["{}"], "pip none"),
     "bounded": lambda: with_many_lines("pip<1", ["{}.0+cpu", "{}.0.post1"], "pip 0.0.post1"),
+    "beside-bound": lambda: with_lines_at_random("{}.0", [f"pip<{MANY}.post1"]),
+    "local-cases": lambda: with_lines_at_random("{}.0+cpu"),
     "specifiers-100": lambda: with_specifiers(100, 0.1, 60),
     "specifiers-1000": lambda: with_specifiers(1000, 1),
     "packages": with_packages,

@@ -4,8 +4,8 @@ use crate::reading::read;
 use crate::stop::{Told, answered, said};
 use pep508_tree::{Interner, MarkerTree};
 use pep508_view::{
-    ContainsMarkerTree, Edge, ExtraMarkerTree, InMarkerTree, MarkerExtra, MarkerTreeKind,
-    MarkerTreeView, StringMarkerTree, VersionMarkerTree,
+    Edge, ExtraMarkerTree, MarkerExtra, MarkerTreeKind, MarkerTreeView, OccurrenceMarkerTree,
+    StringMarkerTree, VersionMarkerTree,
 };
 use std::alloc::{AllocError, Global};
 use std::fmt::{Display, Write};
@@ -19,21 +19,20 @@ pub fn view(alloc: Global, answer: &mut String, interner: &mut Interner, text: &
         MarkerTreeKind::False => said(answer, "false"),
         MarkerTreeKind::Version(node) => answered(versions(answer, &node)),
         MarkerTreeKind::String(node) => answered(texts(answer, &node)),
-        MarkerTreeKind::In(node) => answered(within(answer, &node)),
-        MarkerTreeKind::Contains(node) => answered(containing(answer, &node)),
+        MarkerTreeKind::In(node) => answered(occurring(answer, "in", &node)),
+        MarkerTreeKind::Contains(node) => answered(occurring(answer, "contains", &node)),
         MarkerTreeKind::Extra(node) => answered(extra(answer, &node)),
     }
 }
 
-fn within(answer: &mut String, node: &InMarkerTree) -> Result<(), AllocError> {
+/// Appends a test of texts, with the word between the key and the other text.
+fn occurring(
+    answer: &mut String,
+    word: &str,
+    node: &OccurrenceMarkerTree,
+) -> Result<(), AllocError> {
     let (key, value) = (node.key(), node.value());
-    write!(answer, "{key:?} in '{value}'")?;
-    set_or_not(answer, node.edge(true), node.edge(false))
-}
-
-fn containing(answer: &mut String, node: &ContainsMarkerTree) -> Result<(), AllocError> {
-    let (key, value) = (node.key(), node.value());
-    write!(answer, "{key:?} contains '{value}'")?;
+    write!(answer, "{key:?} {word} '{value}'")?;
     set_or_not(answer, node.edge(true), node.edge(false))
 }
 
