@@ -4,7 +4,7 @@
 //! were asked, ranges that hold whatever the lines accept are made, and candidates that they reject ask no
 //! line.
 
-ghost use Rattle.std.specs.Prelude.{◌≡◌, true, false, None, length, map, IfOk, IsTrue};
+ghost use Rattle.std.specs.Prelude.{◌≡◌, ◌&&◌, true, false, not, None, length, map, IfOk, IsTrue};
 ghost use Rattle.std.specs.List.{list_all};
 ghost use Rattle.pep440_version.specs.Record.{VersionRecord};
 ghost use Rattle.pep440_range.specs.Agreement.{IsSaid};
@@ -97,9 +97,16 @@ fn lists_of<'a>(
 {
     let mut lists = Vec::new(alloc);
     for (index, line) in lines.iter().enumerate() {
-        if marks[index] && !line.is_url {
+        if has_list(marks[index], line) {
             lists.push(line.specifiers.specifiers())?;
         }
     }
     Ok(lists)
+}
+
+/// Whether a line is marked and has no URL.
+fn has_list(mark: bool, line: &TableLine) -> bool
+    ensures { result ≡ (mark && not line.now.is_url) }
+{
+    mark && !line.is_url
 }
