@@ -11,7 +11,6 @@ pub mod Numbers
 pub mod Numbered
 pub mod Answers
 pub mod Choosing
-pub mod Sieving
 pub mod Runs
 pub mod Lasting
 pub mod Owns

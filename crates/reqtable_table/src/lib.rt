@@ -12,7 +12,6 @@ pub mod lent;
 mod room;
 mod row;
 mod runs;
-mod sieving;
 mod table;
 mod table_answer;
 
