@@ -16,6 +16,7 @@ pub mod RowsOfLines
 pub mod AskedLines
 pub mod MarkedAsks
 pub mod AskedParts
+pub mod Sifted
 pub mod Telling
 pub mod Finding
 pub mod KeptFlags

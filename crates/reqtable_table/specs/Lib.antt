@@ -11,6 +11,7 @@ pub mod Numbers
 pub mod Numbered
 pub mod Answers
 pub mod Choosing
+pub mod Sieving
 pub mod Runs
 pub mod Lasting
 pub mod Owns

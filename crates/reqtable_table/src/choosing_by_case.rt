@@ -15,10 +15,12 @@ ghost use Rattle.reqtable_table.specs.Choosing.{case_asks, tests_at, AskedMore, 
 ghost use Rattle.reqtable_table.specs.Counts.{tests_of};
 ghost use Rattle.reqtable_table.specs.Kept.{kept_front};
 ghost use Rattle.reqtable_table.specs.KeptLines.{line_record};
+ghost use Rattle.reqtable_table.specs.Sieving.{Knows};
 ghost use Rattle.reqtable_table.specs.Standing.{HasItsFlags, IsOfTexts};
 ghost use Rattle.reqtable_table.specs.declared.kept.TableLine.{TableLine};
 
 use crate::kept::TableLine;
+use crate::sieving::{Asking, is_sifted_out};
 use pep440_version::Version;
 use reqtable_answer::Admission;
 use reqtable_search::Run;
@@ -27,9 +29,9 @@ use std::alloc::{AllocError, Global};
 use version_ranges::Ranges;
 
 /// The place in the candidate list of the first candidate that all marked lines accept and that is admitted,
-/// found as `Table::answer_among` says. A candidate that the range doesn't decide is tested against each
-/// specifier of the marked lines, up to the first that rejects it: from the line that rejected the last such
-/// candidate on, and then of those before it.
+/// found as `Table::answer_among` says. A candidate that the range doesn't decide, and that isn't known to be
+/// rejected (`sieving`), is tested against each specifier of the marked lines, up to the first that rejects
+/// it: from the line that rejected the last such candidate on, and then of those before it.
 pub(crate) fn chosen<F: Fn(&Version, bool) -> bool>(
     alloc: Global,
     lines: &mut [TableLine],
@@ -56,12 +58,12 @@ pub(crate) fn chosen<F: Fn(&Version, bool) -> bool>(
         + most_tests (case_asks marks.now (map line_record lines.old)) (map placed_seen own.now) }
 {
     let bounded = any_marked(lines, marks, |line: &TableLine| line.is_bounded);
-    let mut first = 0;
+    let mut asking = Asking::new();
     let mut at = 0;
     while at < own.len() {
         let placed = own.at(at);
         let version = &placed.candidate.version;
-        match takes(alloc, lines, marks, range, bounded, version, &mut first) {
+        match takes(alloc, lines, marks, range, bounded, version, &mut asking) {
             Ok(taken) => {
                 if taken && admission.admits(version, pre) {
                     return Ok(Some(placed.place));
@@ -93,8 +95,8 @@ pub(crate) fn any_marked<F: Fn(&TableLine) -> bool>(
     false
 }
 
-/// Whether all marked lines accept the version: decided by their range, where that decides it, and else by
-/// `takes_all`.
+/// Whether all marked lines accept the version: decided by their range, where that decides it, else by what is
+/// known of them, and else by `takes_all`.
 fn takes(
     alloc: Global,
     lines: &mut [TableLine],
@@ -102,22 +104,28 @@ fn takes(
     range: &Option<Ranges<Version>>,
     bounded: bool,
     version: &Version,
-    first: &mut usize,
+    asking: &mut Asking,
 ) -> Result<bool, AllocError>
     requires marks { length marks.now ≡ length lines.old }
     requires tells { Tells bounded range.now (case_asks marks.now (map line_record lines.old)) }
+    requires knows { Knows (case_asks marks.now (map line_record lines.old)) asking.old }
     requires said { IsSaid version.now }
     ensures answer { IfOk result (λ taken. taken ≡
         list_all (ask_takes version.now) (case_asks marks.now (map line_record lines.old))) }
     ensures more { AskedMore (tests_at (case_asks marks.now (map line_record lines.old)) version.now)
         (map line_record lines.new) (map line_record lines.old) }
+    ensures knows { Knows (case_asks marks.now (map line_record lines.old)) asking.new }
 {
     if let Some(set) = range {
         if is_told(bounded, version) {
             return Ok(set.contains(version));
         }
     }
-    takes_all(alloc, lines, marks, version, first)
+    let rejected = is_sifted_out(alloc, asking, lines, marks, version)?;
+    if rejected {
+        return Ok(false);
+    }
+    takes_all(alloc, lines, marks, version, &mut asking.first)
 }
 
 /// Whether all marked lines accept the version: each is tested, from the one at `first` on, and then those

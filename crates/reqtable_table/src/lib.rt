@@ -12,6 +12,7 @@ pub mod lent;
 mod room;
 mod row;
 mod runs;
+mod sieving;
 mod table;
 mod table_answer;
 

@@ -3,17 +3,29 @@ use Rattle.pep440_range.specs.Agreement.{IsSaid}
 use Rattle.reqtable_candidates.specs.Ordered.{placed_seen}
 use Rattle.reqtable_answer.specs.Asks.{may_be_taken}
 use Rattle.reqtable_table.specs.Choosing.{case_asks, Tells}
+use Rattle.reqtable_table.specs.Sieving.{Knows}
 use Rattle.reqtable_table.proofs.AskedLines.{records, none_more}
 use Rattle.reqtable_table.proofs.Finding.{find_here, find_none, find_on, none_passed, passed_more, all_at}
 use Rattle.reqtable_table.proofs.Finding.{is_refused, as_admitted, most_more, most_end}
 use Rattle.reqtable_table.proofs.MarkedAsks.{same_asks, same_answer}
+use Rattle.reqtable_table.proofs.Sifted.{knows_nothing}
 use Rattle.reqtable_table.proofs.Telling.{case_tells}
 use Rattle.reqtable_table.proofs.choosing_by_case.chosen.Goals as goal
 use Rattle.reqtable_table.proofs.choosing_by_case.chosen.Goals.{else-taken-via-then-taken+else-admits}
 use Rattle.reqtable_table.proofs.choosing_by_case.chosen.Goals.{else-taken-via-else-taken}
 
 pub loop-at-init : goal.loop-at-init
-loop-at-init g c = record { more = none_more 0 (records c.args.lines.now); none = λ admits by. refl }
+loop-at-init g c = record {
+  more = none_more 0 (records c.args.lines.now);
+  knows = knows_nothing (case_asks c.args.marks.now (records c.args.lines.now)) c.new-asking.result c.new-asking.ensures;
+  none = λ admits by. refl;
+}
+
+pub takes-requires-clause-knows : goal.takes-requires-clause-knows
+takes-requires-clause-knows g c =
+    subst (λ asks. Knows asks c.loop-at.asking)
+    (sym (same_asks c.args.marks.now c.args.lines.now c.loop-at.lines c.loop-at.invariant.more.same))
+    c.loop-at.invariant.knows
 
 pub takes-requires-clause-tells : goal.takes-requires-clause-tells
 takes-requires-clause-tells g c =
@@ -96,6 +108,9 @@ loop-at-preserved g c =
           passed_more marks lines c.takes.new.lines own (at + 1) c.next-at.result (omega (arith, c.next-at.ensures.behind))
           (most_more marks lines c.loop-at.lines c.takes.new.lines own at item
           (subst (λ n. c.loop-at.at < n) c.len.ensures c.loop-at-test.true) c.at-placed.ensures so_far.more c.takes.ensures.more);
+      knows =
+          subst (λ asks. Knows asks c.takes.new.asking) (same_asks marks lines c.loop-at.lines so_far.more.same)
+          c.takes.ensures.knows;
       none = λ admits by.
           find_on placed_seen (may_be_taken admits asks) own (at + 1) c.next-at.result
           (find_none placed_seen (may_be_taken admits asks) own at item (subst (λ n. c.loop-at.at < n) c.len.ensures c.loop-at-test.true)
