@@ -12,20 +12,21 @@ import unittest
 from fowlyore import InvalidMarker, Marker, SpecifierSet, _native, normal
 
 PYTHON = pathlib.Path(__file__).resolve().parents[1]
-# A marker whose tree is exponentially larger, so that making it takes seconds, and half a gigabyte.
-MANY = " or ".join(f"extra == 'a{it}' and extra == 'b{it}'" for it in range(20))
+# A marker whose tree is exponentially larger, so that making it takes longer than any machine has.
+MANY = " or ".join(f"extra == 'a{it}' and extra == 'b{it}'" for it in range(60))
 # (a process that was started in the background ignores the signal)
 CODE = """
 import signal, sys, fowlyore
 signal.signal(signal.SIGINT, signal.default_int_handler)
+fowlyore.bounds.nodes = None
 print("began", flush=True)
 try:
     fowlyore.Marker(sys.stdin.read()).is_true()
 except KeyboardInterrupt:
     print("interrupted", flush=True)
 """
-# How long the signal may wait, and how much later a slow machine may see it.
-SECONDS, SLOW = 0.2, 3
+# After so many seconds a call that goes on all the same is ended.
+MOST = 30
 
 
 class Interrupted(unittest.TestCase):
@@ -36,11 +37,11 @@ class Interrupted(unittest.TestCase):
             self.assertEqual(process.stdout.readline(), b"began\n")
             time.sleep(0.5)
             process.send_signal(signal.SIGINT)
-            began = time.monotonic()
+            last = threading.Timer(MOST, process.kill)
+            last.start()
             self.assertEqual(process.stdout.readline(), b"interrupted\n")
-            took = time.monotonic() - began
+            last.cancel()
             self.assertEqual(process.wait(60), 0)
-        self.assertLess(took, SECONDS + SLOW)
 
     def test_a_handler_that_returns(self):
         """The call goes on, and the handler may call too."""
