@@ -101,12 +101,12 @@ def with_many_lines(last, forms, row):
     return Shape([*lines, last], candidates, [row], 0.3)
 
 
-def with_lines_at_random(form, last=()):
+def with_lines_at_random(form, seconds, last=()):
     """Each line rejects one candidate, and no candidate is left."""
     numbers = list(range(MANY))
     random.Random(SEED).shuffle(numbers)
     lines = [f"pip!={form.format(number)}" for number in numbers]
-    return Shape([*lines, *last], [f"pip {form.format(number)}" for number in range(MANY)], ["pip none"], 0.3)
+    return Shape([*lines, *last], [f"pip {form.format(number)}" for number in range(MANY)], ["pip none"], seconds)
 
 
 def with_post_releases():
@@ -161,8 +161,8 @@ def two_lists():
 SHAPES = {
     "exact": lambda: with_many_lines("pip===0.0", ["{}"], "pip none"),
     "bounded": lambda: with_many_lines("pip<1", ["{}.0+cpu", "{}.0.post1"], "pip 0.0.post1"),
-    "beside-bound": lambda: with_lines_at_random("{}.0", [f"pip<{MANY}.post1"]),
-    "local-cases": lambda: with_lines_at_random("{}.0+cpu"),
+    "beside-bound": lambda: with_lines_at_random("{}.0", 0.3, [f"pip<{MANY}.post1"]),
+    "local-cases": lambda: with_lines_at_random("{}.0+cpu", 0.6),
     "specifiers-100": lambda: with_specifiers(100, 0.1, 60),
     "specifiers-1000": lambda: with_specifiers(1000, 1),
     "packages": with_packages,
