@@ -118,73 +118,33 @@ fn run_within<S: Read + Drop, W: Write>(
     ensures { RunsWithin bounds (asked_of opened.old) format vars.now (map (λ e. e.now) extras.now)
         (map S.remaining (readers_of opened.old)) W.contents output.old output.new result }
 {
-    let mut interner = Interner::with_most(alloc, bounds.nodes);
+    let mut nodes = Interner::with_most(alloc, bounds.nodes);
     match opened {
         Opened::Check {
-            requirements,
-            environment,
-            candidates,
-        } => check(
-            alloc,
-            requirements,
-            environment,
-            candidates,
-            extras,
-            vars,
-            format,
-            output,
-        ),
+            requirements: first,
+            environment: second,
+            candidates: third,
+        } => check(alloc, first, second, third, extras, vars, format, output),
         Opened::Matrix {
-            requirements,
-            environments,
-            candidates,
+            requirements: first,
+            environments: second,
+            candidates: third,
             limit,
         } => matrix_within(
-            alloc,
-            requirements,
-            environments,
-            candidates,
-            extras,
-            vars,
-            *limit,
-            format,
-            bounds,
-            &mut interner,
-            output,
+            alloc, first, second, third, extras, vars, *limit, format, bounds, &mut nodes, output,
         ),
         Opened::Same { left, right, limit } => same_within(
-            alloc,
-            left,
-            right,
-            vars,
-            *limit,
-            format,
-            bounds,
-            &mut interner,
-            output,
+            alloc, left, right, vars, *limit, format, bounds, &mut nodes, output,
         ),
         Opened::Conflicts {
-            requirements,
+            requirements: first,
             limit,
         } => conflicts_within(
-            alloc,
-            requirements,
-            vars,
-            *limit,
-            format,
-            bounds,
-            &mut interner,
-            output,
+            alloc, first, vars, *limit, format, bounds, &mut nodes, output,
         ),
-        Opened::Normal { requirements } => normal_within(
-            alloc,
-            requirements,
-            vars,
-            format,
-            bounds,
-            &mut interner,
-            output,
-        ),
+        Opened::Normal {
+            requirements: first,
+        } => normal_within(alloc, first, vars, format, bounds, &mut nodes, output),
     }
 }
 

@@ -26,8 +26,8 @@ CoversLines lock lines =
 -- where both sets of a pair of cases apply of which the lock's doesn't cover the other; it does so in each
 -- pair before this one, and everywhere for each package before this one; and the numbers are those of the
 -- other set's lines
-pub record IsFirstUncovered (lock lines : List LineRecord) (nodes : List NodeRecord) (name : List ℕ) (tree : Tree)
-    (numbers : List ℕ) : Type 0 where
+pub record IsFirstUncovered (lock lines : List LineRecord) (nodes : List NodeRecord) (name : List ℕ)
+    (tree : Tree) (numbers : List ℕ) : Type 0 where
   pub pair : Marks × Marks
   pub made : IsTree nodes tree
   pub somewhere : (v : Valuation) × (holds nodes tree v ≡ true)

@@ -30,9 +30,9 @@ use std::alloc::Global;
 ///
 /// Both lists must have been read with this interner.
 ///
-/// Costs what `reqtable_compare::related` does, and once, for a package that isn't covered, one comparison
-/// of names for each of the requirements' lines and one check whether two trees are disjoint for each of
-/// its lines.
+/// Costs what `same` does, but that two cases are compared by an intersection of their ranges and a union of
+/// their extras; and once, for a package that isn't covered, one comparison of names for each of the
+/// requirements' lines and one check whether two trees are disjoint for each of its lines.
 ///
 /// # Errors
 ///

@@ -1,12 +1,14 @@
--- A version that all lists accept is held by both ranges.
-use Rattle.std.proofs.Common.{◌≡◌, ◌∙◌, ◌&&◌, Bool, true, false, refl, sym, true≢false}
+-- Two ranges that are asked one after the other.
+use Rattle.std.proofs.Common.{◌≡◌, ◌&&◌, Bool, true, false, not, refl, ap, sym, true≢false}
 
-pub both_hold : (a b c all : Bool) → all ≡ (a && (b && c)) → all ≡ true → (a ≡ true) × (b ≡ true)
-both_hold true true c all h e = (refl, refl)
-both_hold true false c all h e = absurd (true≢false (sym e ∙ h))
-both_hold false b c all h e = absurd (true≢false (sym e ∙ h))
+pub together : (a b c : Bool) → (a && (b && c)) ≡ ((a && b) && c)
+together true b c = refl
+together false b c = refl
 
--- and one that a range doesn't hold is rejected
-pub not_all : (held all : Bool) → (all ≡ true → held ≡ true) → held ≡ false → all ≡ false
-not_all held false h e = refl
-not_all held true h e = absurd (true≢false (sym (h refl) ∙ e))
+pub first_lacks : (a b : Bool) → a ≡ false → true ≡ not (a && b)
+first_lacks true b e = absurd (true≢false e)
+first_lacks false b e = refl
+
+pub second_tells : (a b found : Bool) → a ≡ true → found ≡ b → not found ≡ not (a && b)
+second_tells true b found e f = ap not f
+second_tells false b found e f = absurd (true≢false (sym e))

@@ -1,10 +1,7 @@
 //! Ranges that hold whatever some lists accept, and versions that only few of their specifiers reject.
 
-ghost use Rattle.std.specs.Prelude.{◌≡◌, IsTrue, List, map, false, IfOk};
-ghost use Rattle.pep440_specifier.specs.Matching.{SpecifierRecord};
-ghost use Rattle.pep440_range.specs.Agreement.{IsSaid};
-ghost use Rattle.reqtable_range.specs.Sifting.{Sifts};
-ghost use Rattle.reqtable_range.specs.Together.{all_take};
+ghost use Rattle.std.specs.Prelude.{◌≡◌, not, map, IfOk};
+ghost use Rattle.reqtable_range.specs.Sifting.{Sifts, sieve_holds};
 
 use crate::laws::simple_range_tells_what_all_take;
 use crate::one::{OneRange, holds_public, one_range};
@@ -22,27 +19,23 @@ pub struct Sieve {
 }
 
 impl Sieve {
-    /// Whether the ranges reject the version, and so one of the lists does. `false` leaves it open.
+    /// Whether one of the ranges doesn't contain the version, so that one of the lists rejects it if it can be
+    /// written. `false` leaves open whether one does.
     ///
-    /// With n specifiers in the ranges that are O(log n) comparisons of versions. Needs memory for a copy of a
-    /// version with a local part.
+    /// With n specifiers in the ranges that are O(log n) comparisons of versions. Needs memory for a copy of
+    /// a version with a local part.
     ///
     /// # Errors
     ///
     /// `AllocError` when memory runs out.
     pub fn rejects(&self, alloc: Global, version: &Version) -> Result<bool, AllocError>
-        requires { IsSaid version.now }
-        ensures { IfOk result (λ rejected. IsTrue rejected → (lists : List (List SpecifierRecord)) →
-            Sifts lists self.now → all_take lists version.now ≡ false) }
+        ensures { IfOk result (λ rejected. rejected ≡ not (sieve_holds self.now version.now)) }
     {
         let public = holds_public(alloc, &self.public, version)?;
         if !public {
             return Ok(true);
         }
-        if !self.local.contains(version) {
-            return Ok(true);
-        }
-        Ok(false)
+        Ok(!self.local.contains(version))
     }
 }
 

@@ -2,14 +2,13 @@
 use Rattle.std.proofs.Common.{◌≡◌, ◌∙◌, ◌<◌, ◌+◌, ◌&&◌, ℕ, Bool, true, false, cond, List, [], ◌∷◌, ◌++◌, map, take}
 use Rattle.std.proofs.Common.{◌≤◌, length, get_or, not, refl, sym, ap, subst, None, IfSome, true≢false, arith}
 use Rattle.std.proofs.lemmas.List.{map-append, take_all}
-use Rattle.std.proofs.lemmas.List.Folds.{list_all-append, list_all-map}
+use Rattle.std.proofs.lemmas.List.Folds.{list_all-append}
 use Rattle.std.specs.List.{list_all}
 use Rattle.pep440_version.specs.Record.{VersionRecord}
 use Rattle.pep440_specifier.specs.Matching.{SpecifierRecord}
 use Rattle.pep440_specifier_list.specs.Lists.{matches_all}
 use Rattle.pep440_range.proofs.Lists.{both_true}
 use Rattle.pep508_requirement_text.specs.FrontReading.{Front}
-use Rattle.reqtable_range.specs.Sifting.{Sifts}
 use Rattle.reqtable_range.specs.Together.{all_take}
 use Rattle.reqtable_answer.specs.Asks.{ask_takes, specifiers_of}
 use Rattle.reqtable_cases.specs.Lines.{marked}
@@ -18,7 +17,7 @@ use Rattle.reqtable_table.specs.declared.sieving.Asking.{Asking}
 use Rattle.reqtable_table.specs.Choosing.{case_asks}
 use Rattle.reqtable_table.specs.Kept.{kept_front, kept_source}
 use Rattle.reqtable_table.specs.KeptLines.{line_record}
-use Rattle.reqtable_table.specs.Sieving.{Knows}
+use Rattle.reqtable_table.specs.Sieving.{HoldsTaken, Knows}
 use Rattle.reqtable_table.proofs.AskedLines.{records}
 use Rattle.reqtable_table.proofs.Marking.{marked_more, marked_map}
 
@@ -72,14 +71,9 @@ module _ (marks : List Bool) (lines : List TableLine) (i : ℕ) (line : TableLin
       list_all-append (λ list. matches_all list version) lists (line.specifiers.members ∷ [])
       ∙ (λ k. front k && (own k && true))
 
--- requirements by the lists of their specifiers
-pub asks_take : (version : VersionRecord) (asks : List Front) →
-    all_take (map (λ ask. specifiers_of ask.source) asks) version ≡ list_all (ask_takes version) asks
-asks_take version asks = list_all-map (λ list. matches_all list version) (λ (ask : Front). specifiers_of ask.source) asks
-
 -- where nothing was made, nothing is known
 pub knows_nothing : (asks : List Front) (asking : Asking) → asking.sieve ≡ None → Knows asks asking
-knows_nothing asks asking e = subst (λ s. IfSome s (Sifts (map (λ ask. specifiers_of ask.source) asks))) (sym e) tt
+knows_nothing asks asking e = subst (λ sieve. IfSome sieve (HoldsTaken asks)) (sym e) tt
 
 -- a line has a list where it is marked and has no URL
 pub has_list : (mark url : Bool) → (mark && not url) ≡ true → (mark ≡ true) × (url ≡ false)
@@ -97,3 +91,9 @@ at_end marks lines i lists same past h version e =
     let lines_are : take i lines ≡ lines = take_all i lines past in
     h version
     (ap (list_all (ask_takes version)) ((λ k. asks_in (marks_are k) (lines_are k)) ∙ sym (asks_are marks lines)) ∙ e)
+
+-- what the ranges don't hold is rejected
+pub not_held : (held all : Bool) → (all ≡ true → held ≡ true) → not held ≡ true → all ≡ false
+not_held held false h e = refl
+not_held true true h e = absurd (true≢false (sym e))
+not_held false true h e = absurd (true≢false (sym (h refl)))

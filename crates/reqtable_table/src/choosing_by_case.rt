@@ -95,8 +95,8 @@ pub(crate) fn any_marked<F: Fn(&TableLine) -> bool>(
     false
 }
 
-/// Whether all marked lines accept the version: decided by their range, where that decides it, else by what is
-/// known of them, and else by `takes_all`.
+/// Whether all marked lines accept the version: decided by their range, where that decides it, else by what
+/// is known of them, and else by `takes_all`.
 fn takes(
     alloc: Global,
     lines: &mut [TableLine],

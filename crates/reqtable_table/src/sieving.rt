@@ -1,19 +1,18 @@
 //! What is known of a case while its candidates are asked one by one.
 //!
-//! A candidate that the case's range doesn't decide is asked of the lines, of which there may be many. Once some
-//! were asked, ranges that hold whatever the lines accept are made, and candidates that they reject ask no
-//! line.
+//! A candidate that the case's range doesn't decide is asked of the lines, of which there may be many. Once
+//! some were asked, ranges that hold whatever the lines accept are made, and candidates that they reject ask
+//! no line.
 
 ghost use Rattle.std.specs.Prelude.{◌≡◌, ◌&&◌, true, false, not, None, length, map, IfOk, IsTrue};
 ghost use Rattle.std.specs.List.{list_all};
 ghost use Rattle.pep440_version.specs.Record.{VersionRecord};
 ghost use Rattle.pep440_range.specs.Agreement.{IsSaid};
-ghost use Rattle.reqtable_range.specs.Sifting.{Sifts};
 ghost use Rattle.reqtable_range.specs.Together.{all_take};
-ghost use Rattle.reqtable_answer.specs.Asks.{ask_takes, specifiers_of};
+ghost use Rattle.reqtable_answer.specs.Asks.{ask_takes};
 ghost use Rattle.reqtable_table.specs.Choosing.{case_asks};
 ghost use Rattle.reqtable_table.specs.KeptLines.{line_record};
-ghost use Rattle.reqtable_table.specs.Sieving.{Knows};
+ghost use Rattle.reqtable_table.specs.Sieving.{HoldsTaken, Knows};
 
 use crate::kept::TableLine;
 use pep440_specifier_list::VersionSpecifiers;
@@ -77,8 +76,7 @@ pub(crate) fn is_sifted_out(
 /// The ranges of the specifiers of the marked lines.
 fn sieve_of_lines(alloc: Global, lines: &[TableLine], marks: &[bool]) -> Result<Sieve, AllocError>
     requires { length marks.now ≡ length lines.now }
-    ensures { IfOk result (Sifts (map (λ ask. specifiers_of ask.source)
-        (case_asks marks.now (map line_record lines.now)))) }
+    ensures { IfOk result (HoldsTaken (case_asks marks.now (map line_record lines.now))) }
 {
     let lists = lists_of(alloc, lines, marks)?;
     sieve_of(alloc, &lists)
