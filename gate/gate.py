@@ -46,8 +46,8 @@ NOTHING, RELEASE = "--from-nothing", "--release"
 SCRIPTS = {"--wrong": (["wrong.py"], ["mutants.py", "--again"]), "--mutants": (["mutants.py"],), "--faults": (["faults.py"],)}
 QUESTIONS = "questions"
 # What of tests/ the parts read that run programs.
-OF_REQS = ("alike.py", "cli.sh", "counted.sh", "documented.py", "drawn.py", "ends.c", "ends.py", "help.txt", "install.sh", "numerals.py",
-           "objects.py", "once.py", "pages", "pairs.py", "refuse.c", "refused.py", "refused.sh", "rows.py", "runs.json", "runs.py", "sizes.py",
+OF_REQS = ("alike.py", "cli.sh", "counted.sh", "covered.py", "documented.py", "drawn.py", "ends.c", "ends.py", "help.txt", "install.sh",
+           "numerals.py", "objects.py", "once.py", "pages", "pairs.py", "refuse.c", "refused.py", "refused.sh", "rows.py", "runs.json", "runs.py", "sizes.py",
            "try.sh")
 OF_C = ("c", "c.py", "c.sh", "calls.py", "fuzz.py", "objects.py", "refuse.c", "runs.json", "runs.py")
 
@@ -108,6 +108,7 @@ def parts(more):
         Part("command line", ["bash", "tests/cli.sh"], ["reqs_cli"], [*of_reqs, "README.md", "docs"]),
         Part("answers compared", [*python, "tests/alike.py", "1000"], ["reqs_cli"], of_reqs, fills=True),
         Part("lists compared", [*python, "tests/pairs.py", "500"], ["reqs_cli"], of_reqs, fills=True),
+        Part("lists covered", [*python, "tests/covered.py", "1000"], ["reqs_cli"], of_reqs, fills=True),
         Part("each marker once", [*python, "tests/once.py"], ["reqs_cli"], of_reqs),
         Part("a first answer", ["bash", "tests/try.sh"], [], of_try),
         Part("installing", ["bash", "tests/install.sh"], ["reqs_cli"], of_reqs),

@@ -45,7 +45,8 @@ extern "C" {
 
 enum reqs_status {
     REQS_ANSWERED = 0,
-    REQS_DIFFERENT = 1, /* reqs_same, reqs_same_json: the lists don't require the same */
+    REQS_DIFFERENT = 1, /* reqs_same: the lists don't require the same; reqs_covers: the first doesn't cover the
+                         * second; so for reqs_same_json and reqs_covers_json */
     REQS_REFUSED = 2,   /* an argument is refused; out has the reason */
     REQS_MEMORY = 3     /* out of memory; length is 0 */
 };
@@ -81,10 +82,10 @@ uint32_t reqs_abi(void);
  * whose tree there are more ("requirements: line 3: more than 1000000 nodes"), or with input 0 if it made more of
  * the trees of all lines. A call with `clauses` writes markers as clauses with `or` between them, of which each
  * marker may have exponentially many: with more than `clauses` it is refused at the marker's line ("requirements:
- * line 3: more than 100000 clauses"), in reqs_same with input 0 ("more than 100000 clauses for foo"). A call with
- * `cases` makes the cases of each package, at most `limit`: where all have more than `cases` together, it is
- * refused ("requirements: more than 5000 cases in all"). REQS_NO_BOUND is no bound. A list that can't be read is
- * refused for that before it is for a bound. */
+ * line 3: more than 100000 clauses"), in reqs_same and reqs_covers with input 0 ("more than 100000 clauses for
+ * foo"). A call with `cases` makes the cases of each package, at most `limit`: where all have more than `cases`
+ * together, it is refused ("requirements: more than 5000 cases in all"). REQS_NO_BOUND is no bound. A list that
+ * can't be read is refused for that before it is for a bound. */
 
 /* What `reqs check` writes: for each required package, the highest candidate that is accepted. */
 reqs_reply reqs_check(const uint8_t *requirements, size_t requirements_len,
@@ -106,6 +107,13 @@ reqs_reply reqs_same(const uint8_t *left, size_t left_len,
                      const uint8_t *right, size_t right_len,
                      uint64_t limit, size_t nodes, size_t clauses, uint64_t cases,
                      uint8_t *out, size_t out_len);
+
+/* REQS_ANSWERED and "yes\n" if a lock requires whatever the requirements do: each package, at least with the
+ * same extras, and only versions of their ranges; otherwise REQS_DIFFERENT and what `reqs covers` writes. */
+reqs_reply reqs_covers(const uint8_t *lock, size_t lock_len,
+                       const uint8_t *requirements, size_t requirements_len,
+                       uint64_t limit, size_t nodes, size_t clauses, uint64_t cases,
+                       uint8_t *out, size_t out_len);
 
 /* What `reqs conflicts` writes: a line for each case in which lines contradict each other; nothing if there
  * are none. No version without a local part that is no post-release is accepted by all lines of such a case;
@@ -141,6 +149,14 @@ reqs_reply reqs_same_json(const uint8_t *left, size_t left_len,
                           const uint8_t *right, size_t right_len,
                           uint64_t limit, size_t nodes, size_t clauses, uint64_t cases,
                           uint8_t *out, size_t out_len);
+
+/* REQS_ANSWERED and {"covers":true}; otherwise REQS_DIFFERENT and {"covers":false,"lines":[..],"marker":..,
+ * "package":..}: the package that isn't covered, where (null for all environments), and the numbers of the
+ * requirements' lines that apply there. */
+reqs_reply reqs_covers_json(const uint8_t *lock, size_t lock_len,
+                            const uint8_t *requirements, size_t requirements_len,
+                            uint64_t limit, size_t nodes, size_t clauses, uint64_t cases,
+                            uint8_t *out, size_t out_len);
 
 /* {"conflicts":[..]}: each case in which lines contradict each other, with their numbers. */
 reqs_reply reqs_conflicts_json(const uint8_t *requirements, size_t requirements_len,

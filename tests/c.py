@@ -125,9 +125,11 @@ def of_examples():
 
 
 NAMES = {"check": ("requirements", "environment", "candidates"), "matrix": ("requirements", "environments", "candidates"),
-         "same": ("left", "right"), "conflicts": ("requirements",), "normal": ("requirements",)}
+         "same": ("left", "right"), "covers": ("lock", "requirements"), "conflicts": ("requirements",),
+         "normal": ("requirements",)}
 BOUNDS = "nodes", "clauses", "cases"
-PATHS = {"R": 0, "E": 1, "C": 2, "LEFT": 0, "RIGHT": 1, "REQS": 0}
+# (the requirements are the last text of each command on lists)
+PATHS = {"R": 0, "E": 1, "C": 2, "LEFT": 0, "RIGHT": 1, "LOCK": 0, "REQS": -1}
 
 
 def of_runs():
@@ -144,7 +146,8 @@ def of_runs():
 def call_of(kind, run, environment):
     """A run's call and its texts."""
     if kind == "lists":
-        return run["command"], [run["left"], run["right"]] if run["command"] == "same" else [run["requirements"]]
+        call = run["command"]
+        return call, [run[it] for it in NAMES[call]]
     call, where = "check", run.get("environment", environment)
     if kind == "matrix":
         call = kind
@@ -265,7 +268,7 @@ BOUNDED_LISTS = [
     (f"{call}{form}", texts, kinds, status)
     for call, texts, kinds, status in (
         ("matrix", [LINES, "[]", "", ""], ("nodes", "cases"), 0), ("same", [LINES, OTHERS], ("nodes", "clauses", "cases"), 1),
-        ("conflicts", [LINES], ("nodes", "cases"), 0), ("normal", [LINES], ("nodes", "clauses"), 0))
+        ("covers", [OTHERS, LINES], ("nodes", "clauses", "cases"), 1), ("conflicts", [LINES], ("nodes", "cases"), 0), ("normal", [LINES], ("nodes", "clauses"), 0))
     for form in ("", " json")
 ]
 # The bounds by which the other faces call, and markers that are beyond them: with 2^30 nodes and more, and with 2^30 clauses.
@@ -400,6 +403,7 @@ def list_bounds(program):
             wants(f"{call} is refused with fewer {what}", refused, replies[:first])
     for call, texts, most, place in (
             ("same", ["b", LINES], [0], (2, 2, 0, 0)), ("normal", [LINES], [NO_BOUND, 0], (1, 2, 0, 0)),
+            ("covers", ["b", LINES], [0], (2, 2, 0, 0)), ("covers", [OTHERS, LINES], [NO_BOUND, 0], (0, 0, 0, 0)),
             ("same", [LINES, OTHERS], [NO_BOUND, 0], (0, 0, 0, 0)), ("conflicts", [LINES], [NO_BOUND, NO_BOUND, 0], (1, 0, 0, 0))):
         reply = made(program, [(call, [it.encode() for it in texts], LIMIT, ROOM, *most)])[0]
         wants(f"{call} beyond a bound has the place {place}", (reply.status, reply.place()) == (REFUSED, place), reply)
@@ -497,10 +501,12 @@ def kinds():
     where, many = environment(), read("examples", "first", "environments.json")
     return [
         ("check", [*lists, b"test\n"]), ("check", [b"a\n--b\n", *lists[1:], b""]), ("matrix", [lists[0], many, lists[2], b""]),
-        ("same", [b"a\n", b"b>1; os_name == 'nt'\n"]), ("conflicts", [b"a<1\na>2\n"]),
+        ("same", [b"a\n", b"b>1; os_name == 'nt'\n"]), ("covers", [b"a\n", b"b>1; os_name == 'nt'\n"]),
+        ("conflicts", [b"a<1\na>2\n"]),
         ("normal", [b"A >= 1.0 ; os_name=='nt'\n"]), ("normal", [b"a @ b"]),
         ("check json", [*lists, b"test\n"]), ("check json", [b"a\n--b\n", *lists[1:], b""]),
         ("matrix json", [lists[0], many, lists[2], b""]), ("same json", [b"a\n", b"b>1; os_name == 'nt'\n"]),
+        ("covers json", [b"a\n", b"b>1; os_name == 'nt'\n"]),
         ("conflicts json", [b"a<1\na>2\n"]), ("normal json", [b"A >= 1.0 ; os_name=='nt'\n"]), ("normal json", [b"a @ b"]),
         ("version", [b"1.0RC1.post2.dev3+a.b"]), ("version", [b"1.0 x"]), ("key", [b"1!70000.2.3rc1+ubuntu.1"]),
         ("specifiers", [b">=1.0,<2,!=1.5.*"]), ("specifiers", [b">=1.0,2"]), ("take", [b">=1.0,===1.5", b"1.5\n2\nx\n"]),

@@ -2,9 +2,9 @@
 
 import struct
 
-CALLS = ("check", "matrix", "same", "conflicts", "normal", "check json", "matrix json", "same json", "conflicts json", "normal json",
-         "version", "key", "order", "specifiers", "take", "ranges disjoint", "subset", "empty", "requirement", "checked", "marker",
-         "marker key", "truth", "disjoint", "implies", "negated", "python", "extras", "hold", "abi")
+CALLS = ("check", "matrix", "same", "covers", "conflicts", "normal", "check json", "matrix json", "same json", "covers json",
+         "conflicts json", "normal json", "version", "key", "order", "specifiers", "take", "ranges disjoint", "subset", "empty",
+         "requirement", "checked", "marker", "marker key", "truth", "disjoint", "implies", "negated", "python", "extras", "hold", "abi")
 
 
 # What bounds no number of nodes, clauses or cases.

@@ -224,6 +224,14 @@ run same thirteen thirteen
 wants "same on more cases than the limit" 2 "" "reqs: thirteen: more than 4096 cases for foo$n"
 run same twelve twelve
 wants "same on 4096 cases" 0 "yes$n" ""
+run covers wider pinned
+wants "a lock that requires more" 0 "yes$n" ""
+run covers pinned wider
+wants "a lock that requires less" 1 "no${n}baz${n}os_name != 'nt'${n}2$n" ""
+run covers --limit 1 pinned again
+wants "covers with a limit of one case" 2 "" "reqs: pinned: more than 1 cases for baz$n"
+run covers again url
+wants "a list with a URL, for covers" 2 "" "reqs: url: line 1: URL$n"
 printf 'foo-bar>=2 ; os_name == "nt"\nbaz\nfoo-bar<2\n' >apart
 run conflicts apart
 wants "lines that contradict each other" 0 "foo-bar 1,3$n" ""
@@ -633,6 +641,9 @@ wants "the left list from standard input" 0 "yes$n" ""
 "$program" same pinned - >out 2>err <wider
 status=$?
 wants "the right list from standard input" 1 "no${n}baz${n}os_name != 'nt'$n" ""
+"$program" covers pinned - >out 2>err <wider
+status=$?
+wants "the requirements of a lock from standard input" 1 "no${n}baz${n}os_name != 'nt'${n}2$n" ""
 "$program" conflicts - >out 2>err <apart
 status=$?
 wants "conflicts from standard input" 0 "foo-bar 1,3$n" ""
@@ -665,6 +676,9 @@ wants "no environments, and nothing to write" 0 "" ""
 "$program" same pinned wider >/dev/full 2>err </dev/null
 status=$?
 wants "a full standard output, for same" 3 "" "reqs: write fault$n"
+"$program" covers pinned wider >/dev/full 2>err </dev/null
+status=$?
+wants "a full standard output, for covers" 3 "" "reqs: write fault$n"
 "$program" conflicts R >/dev/full 2>err </dev/null
 status=$?
 wants "no conflicts, and nothing to write" 0 "" ""
@@ -718,7 +732,7 @@ refuses() {
 
 inputs=(R E C M wider apart unread empty)
 cat "${inputs[@]}" >before
-for words in "check R E C" "matrix R M C" "same R wider" "conflicts apart" "normal R"; do
+for words in "check R E C" "matrix R M C" "same R wider" "covers R wider" "conflicts apart" "normal R"; do
     read -r -a given <<<"$words"
     run "${given[@]}"
     open=$status
@@ -758,7 +772,7 @@ run --help
 wants "--help" 0 "$(cat "$top/tests/help.txt")$n" ""
 run check --help
 wants "check --help" 0 SOMETHING ""
-for name in matrix same conflicts normal; do
+for name in matrix same covers conflicts normal; do
     run $name --help
     wants "$name --help" 0 SOMETHING ""
 done

@@ -266,6 +266,7 @@ LONG = (
     (["check", "R", "E", "C"], f"{NAME} none\n"),
     (["matrix", "R", "M", "C"], f"env 1\n{NAME} none\n"),
     (["same", "R", "C"], f"no\n{NAME}\nall environments\n"),
+    (["covers", "C", "R"], f"no\n{NAME}\nall environments\n1\n"),
     (["conflicts", "R"], f"{NAME} 1\n"),
     (["normal", "R"], f"{NAME}<1,>1\n"),
 )  # fmt: skip
@@ -318,6 +319,8 @@ EMPTIED = {
     ("matrix", "C"): (0, "env 1\nfoo none\nenv 2\n", ""),
     ("same", "LEFT"): (1, "no\nfoo\nall environments\n", ""),
     ("same", "RIGHT"): (1, "no\nfoo\nall environments\n", ""),
+    ("covers", "LOCK"): (1, "no\nbar\nall environments\n1\n", ""),
+    ("covers", "REQS"): (0, "yes\n", ""),
     ("conflicts", "R"): (0, "", ""),
     ("normal", "R"): (0, "", ""),
 }  # fmt: skip

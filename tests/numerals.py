@@ -146,6 +146,9 @@ def same(left, right, differ=False, refused=""):
     said = f"reqs: {refused}\n" if refused else ""
     ended = (2, "", said) if refused else (1, "no\nfoo\nall environments\n", "") if differ else (0, "yes\n", "")
     yield ["same", "LEFT", "RIGHT"], {"LEFT": left, "RIGHT": right}, ended
+    # (lists that require the same cover each other, and what one can't compare the other can't)
+    if refused or not differ:
+        yield ["covers", "LEFT", "RIGHT"], {"LEFT": left, "RIGHT": right}, ended
 
 
 def alone(command, requirements, answer="", refused=""):

@@ -105,9 +105,17 @@ def text_of(command, answer):
         return "".join(map(conflict_text, answer["conflicts"]))
     if command == "normal":
         return "".join(f"{it}\n" for it in answer["requirements"])
-    if answer == {"same": True}:
+    if answer in ({"same": True}, {"covers": True}):
         return "yes\n"
+    if command == "covers":
+        assert sorted(answer) == ["covers", "lines", "marker", "package"] and answer["covers"] is False, answer
+        return difference_text(answer) + ",".join(map(str, answer["lines"])) + "\n"
     assert sorted(answer) == ["marker", "package", "same"] and answer["same"] is False, answer
+    return difference_text(answer)
+
+
+def difference_text(answer):
+    """The package of an answer, and where it is at fault."""
     return f"no\n{answer['package']}\n{EVERYWHERE if answer['marker'] is None else answer['marker']}\n"
 
 

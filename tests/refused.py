@@ -11,8 +11,8 @@ of memory, and write nothing else; or it gives its whole answer after all, since
 for itself. Where an input is refused and its text can't be made, the text of want of memory comes with the status of
 the refusal. A run without a refusal gives the answer with ample memory, before the others and beside them.
 
-The commands are `reqs check` on each example and on lists that are refused, `reqs matrix`, `reqs same`, `reqs conflicts`
-and `reqs normal`, each of these asked for an object too, those of rows.py, the program's help, and the questions of
+The commands are `reqs check` on each example and on lists that are refused, `reqs matrix`, `reqs same`, `reqs covers`,
+`reqs conflicts` and `reqs normal`, each of these asked for an object too, those of rows.py, the program's help, and the questions of
 crates/questions, of those on markers every eighth, one a run; each stands with the answer that it has with ample memory.
 To questions of KEPT the program goes on: it makes a call that was refused memory again, and answers by it and by the
 trees or the table that it made before. There some run has to give the whole answer after a refusal.
@@ -271,6 +271,13 @@ def commands_on_lists(room):
     yield "same, too many clauses:", ["same", "OTHER", "LEFT", "--nodes", "9", "--clauses", "0"], room, (
         2, b"", b"reqs: more than 0 clauses for foo-bar\n")
     yield "same, a URL:", ["same", "LEFT", "URL"], room, (2, b"", b"reqs: URL: line 1: URL\n")
+    yield "covers, yes:", ["covers", "LEFT", "OTHER"], room, (0, b"yes\n", b"")
+    yield "covers, no:", ["covers", "OTHER", "LEFT"], room, (1, b"no\nfoo-bar\npython_full_version >= '3.8'\n1\n", b"")
+    yield "covers, everywhere:", ["covers", "RIGHT", "APART"], room, (1, b"no\nbar\nall environments\n2\n", b"")
+    yield "covers, too many cases:", ["covers", "REQS", "RIGHT", "--limit", "1"], room, (2, b"", cases)
+    yield "covers, too many clauses:", ["covers", "OTHER", "LEFT", "--clauses", "0"], room, (
+        2, b"", b"reqs: more than 0 clauses for foo-bar\n")
+    yield "covers, a URL:", ["covers", "URL", "LEFT"], room, (2, b"", b"reqs: URL: line 1: URL\n")
     yield "conflicts:", ["conflicts", "APART"], room, (0, b"bar 2 pre\nfoo 1,3\n", b"")
     yield "conflicts, too many cases:", ["conflicts", "APART", "--limit", "1"], room, (
         2, b"", b"reqs: APART: more than 1 cases for foo\n")
@@ -293,6 +300,8 @@ def commands_for_objects(room, files):
     yield "matrix, an object:", ["matrix", *environments, *asked], room, (0, b'{"environments":[' + numbered + b"]}\n", b"")
     yield "same, an object:", ["same", "APART", "RIGHT", *asked], room, (
         1, b'{"marker":null,"package":"bar","same":false}\n', b"")
+    yield "covers, an object:", ["covers", "RIGHT", "APART", *asked], room, (
+        1, b'{"covers":false,"lines":[2],"marker":null,"package":"bar"}\n', b"")
     yield "conflicts, an object:", ["conflicts", "APART", *asked], room, (
         0, b'{"conflicts":[{"lines":[2],"package":"bar","prerelease":true},'
            b'{"lines":[1,3],"package":"foo","prerelease":false}]}\n', b"")

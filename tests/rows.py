@@ -51,6 +51,8 @@ ROWS = (
         {"environments": [{"number": 1, "packages": [package("foo", "1.0")]}, {"number": 2, "packages": []}]}),
     Row("same", {"LEFT": "foo==1.*\n", "RIGHT": "foo==1.0.*\n"}, "no\nfoo\nall environments\n",
         {"marker": None, "package": "foo", "same": False}, status=1),
+    Row("covers", {"LOCK": "foo==1.2 ; os_name == 'nt'\n", "REQS": "bar\nfoo>=1\nfoo<2\n"}, "no\nbar\nall environments\n1\n",
+        {"covers": False, "lines": [1], "marker": None, "package": "bar"}, status=1),
     Row("conflicts", {"R": "foo>=2\nfoo<1 ; os_name == 'a'\n"}, "foo 1,2\n",
         {"conflicts": [{"lines": [1, 2], "package": "foo", "prerelease": False}]}),
     Row("normal", {"R": "Foo_Bar [b , a] < 2.0 , >= 1.16 ; python_version >= \"3.8\"\n"},

@@ -5,7 +5,7 @@
 
 Each run has a folder of its own with the files that it names, and the program is started there. What `check`
 answers `matrix` is asked too, for its environment twice; where `same` says yes it is asked with its lists exchanged
-too. A line is printed for each run that differs; the last line is `runs: N passed, M failed`. tests/least.txt says how
+too, and `covers` is asked with its lists both ways. A line is printed for each run that differs; the last line is `runs: N passed, M failed`. tests/least.txt says how
 many runs there are at least.
 """
 
@@ -71,6 +71,10 @@ def runs_of(stored):
     for run in stored["lists"]:
         command, wanted = run["command"], end_of(run)
         name = f"{command}: {run['name']}"
+        if command == "covers":
+            texts = {"LOCK": run["lock"], "REQS": run["requirements"]}
+            yield name, ["covers", "LOCK", "REQS", *options_of(run)], texts, wanted
+            continue
         if command != "same":
             yield name, [command, "REQS", *options_of(run)], {"REQS": run["requirements"]}, wanted
             continue
@@ -78,6 +82,9 @@ def runs_of(stored):
         yield name, ["same", "LEFT", "RIGHT", *options_of(run)], texts, wanted
         if run["status"] == 0:
             yield f"{name}, exchanged", ["same", "RIGHT", "LEFT", *options_of(run)], texts, wanted
+            # (lists that require the same cover each other)
+            yield f"{name}, covered", ["covers", "LEFT", "RIGHT", *options_of(run)], texts, wanted
+            yield f"{name}, covering", ["covers", "RIGHT", "LEFT", *options_of(run)], texts, wanted
 
 
 def options_of(run):

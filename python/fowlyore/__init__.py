@@ -13,7 +13,9 @@ from .errors import Refused
 from .distributions import installed
 from .files import read
 from .listings import Assumption, LeftOut, ListedLine, Listing, Place
-from .lists import Comparison, Conflict, InvalidInput, Row, check, conflicts, matrix, matrix_texts, normal, same
+from .lists import (
+    Comparison, Conflict, Covering, InvalidInput, Row, check, conflicts, covers, matrix, matrix_texts, normal, same,
+)  # fmt: skip
 from .markers import (
     InvalidMarker,
     Marker,
@@ -34,6 +36,7 @@ __all__ = [
     "Assumption",
     "Comparison",
     "Conflict",
+    "Covering",
     "InvalidInput",
     "InvalidMarker",
     "InvalidRequirement",
@@ -58,6 +61,7 @@ __all__ = [
     "bounds",
     "check",
     "conflicts",
+    "covers",
     "default_environment",
     "installed",
     "matrix",

@@ -19,7 +19,7 @@ from .explanations import Explanation, check_explained
 from .files import has_groups, read, read_text, refuse_groups
 from .listings import LeftOut, Listing
 from .lists import (
-    GREATEST_LIMIT, LIMIT, Input, InvalidInput, Row, check, conflicts, environment_input, environments_input, matrix,
+    GREATEST_LIMIT, LIMIT, Input, InvalidInput, Row, check, conflicts, covers, environment_input, environments_input, matrix,
     normal, same,
 )  # fmt: skip
 from .markers import completed
@@ -34,10 +34,11 @@ Source = Union[Path, bytes]
 # What a standard stream is called.
 OUTPUT = "standard output"
 # The words that name an input.
-INPUTS = ("requirements", "environment", "environments", "candidates", "left", "right")
+INPUTS = ("requirements", "environment", "environments", "candidates", "left", "right", "lock")
 
-STATUSES = """exit status: 0 after an answer, 1 where `same` said no, 2 where an input or the command line is refused, 3 where
-memory ran out or a file can't be read or written, as a standard stream that is closed, and 4 where a row is none with --strict.
+STATUSES = """exit status: 0 after an answer, 1 where `same` or `covers` said no, 2 where an input or the command line is refused,
+3 where memory ran out or a file can't be read or written, as a standard stream that is closed, and 4 where a row is none with
+--strict.
 FILE may be `-` once, for standard input. It is a requirements file of pip, as a list with a requirement (PEP 508) a line is one,
 unless its name says otherwise: pyproject.toml, pylock.toml, METADATA, PKG-INFO, *.whl, *.tar.gz, or the folder of a project or of an
 installed distribution."""
@@ -168,6 +169,10 @@ def parser() -> argparse.ArgumentParser:
     it = add(commands, "same", "print whether two lists require the same everywhere, or where they first differ")
     it.add_argument("left", metavar="OLD", help="a list")
     it.add_argument("right", metavar="NEW", help="another list")
+    add_limit(it)
+    it = add(commands, "covers", "print whether a lock file requires whatever a list does, or where it first doesn't")
+    it.add_argument("lock", metavar="LOCK", help="a list, as a lock file")
+    it.add_argument("requirements", metavar="FILE", help="the list that it has to cover")
     add_limit(it)
     it = add(commands, "conflicts", "print the lines of a list that contradict each other where they apply together")
     it.add_argument("requirements", metavar="FILE", help="the list")
@@ -366,6 +371,16 @@ def run_same(words: argparse.Namespace) -> int:
     return ANSWERED if answer else DIFFERENT
 
 
+def run_covers(words: argparse.Namespace) -> int:
+    both = (words.lock, words.requirements)
+    # (groups are those of the projects and lock files among the two)
+    with_groups = [it for it in both if has_groups(it)] or both
+    lock, requirements = (tell_assumed(listing(it, words.group if it in with_groups else [])) for it in both)
+    answer = covers(lock, requirements, words.limit)
+    show(answer)
+    return ANSWERED if answer else DIFFERENT
+
+
 def run_conflicts(words: argparse.Namespace) -> int:
     for it in conflicts(tell_assumed(listing(words.requirements, words.group)), words.limit):
         show(it)
@@ -378,7 +393,10 @@ def run_normal(words: argparse.Namespace) -> int:
     return ANSWERED
 
 
-RUNS = {"check": run_check, "matrix": run_matrix, "same": run_same, "conflicts": run_conflicts, "normal": run_normal}
+RUNS = {
+    "check": run_check, "matrix": run_matrix, "same": run_same, "covers": run_covers, "conflicts": run_conflicts,
+    "normal": run_normal,
+}  # fmt: skip
 
 
 def write_utf8() -> None:

@@ -322,6 +322,7 @@ _markers_hold = _call("reqs_markers_hold", 3, linear=True)
 _check = _call("reqs_check", 4, long=LONG_TEXTS)
 _matrix = _call("reqs_matrix", 4, numbers=3, long=LONG_MARKERS)
 _same = _call("reqs_same", 2, numbers=4, long=LONG_MARKERS)
+_covers = _call("reqs_covers", 2, numbers=4, long=LONG_MARKERS)
 _conflicts = _call("reqs_conflicts", 1, numbers=3, long=LONG_MARKERS)
 _normal = _call("reqs_normal", 1, numbers=2, long=LONG_MARKERS)
 
@@ -493,6 +494,11 @@ def matrix(
 def same(left: bytes, right: bytes, limit: int, nodes: int, clauses: int, cases: int) -> str:
     """What `reqs same` prints."""
     return _same(left, right, numbers=(limit, nodes, clauses, cases)).decode()
+
+
+def covers(lock: bytes, requirements: bytes, limit: int, nodes: int, clauses: int, cases: int) -> str:
+    """What `reqs covers` prints."""
+    return _covers(lock, requirements, numbers=(limit, nodes, clauses, cases), size=_size_for(requirements)).decode()
 
 
 def conflicts(requirements: bytes, limit: int, nodes: int, cases: int) -> str:

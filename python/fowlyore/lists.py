@@ -1,4 +1,4 @@
-"""Lists of requirements: `check`, `matrix`, `same`, `conflicts` and `normal`, as in the program `reqs`.
+"""Lists of requirements: `check`, `matrix`, `same`, `covers`, `conflicts` and `normal`, as in the program `reqs`.
 
 A list is given in one of four ways: a str or bytes is its text, a path (`pathlib.Path`) names a file with
 it, a `Listing` is what `read` has read of a file, and any other iterable has its lines: texts, or
@@ -23,7 +23,8 @@ from .urls import warn_of_marker_in
 from .version import Version
 
 __all__ = [
-    "Comparison", "Conflict", "InvalidInput", "Row", "check", "conflicts", "matrix", "matrix_texts", "normal", "same",
+    "Comparison", "Conflict", "Covering", "InvalidInput", "Row", "check", "conflicts", "covers", "matrix", "matrix_texts", "normal",
+    "same",
 ]  # fmt: skip
 
 # How many cases a package may have in a table where no limit is named, and the greatest limit, as in `reqs`.
@@ -149,6 +150,30 @@ class Comparison:
 
     def __str__(self) -> str:
         return "yes" if self else f"no\n{self.package}\n{self.place}"
+
+
+@dataclass(frozen=True)
+class Covering:
+    """Whether a lock requires whatever requirements do, in which case it is true; otherwise `package` is the
+    first package that it doesn't cover, `place` says where: a marker's text, or `all environments`, and `lines`
+    are the numbers of the requirements' lines that apply there. For requirements that `read` has read, and that
+    aren't plain, the numbers count the lines that ask for something, and `places` is where these stand."""
+
+    package: Optional[str] = None
+    place: Optional[str] = None
+    lines: Tuple[int, ...] = ()
+    places: Tuple[str, ...] = field(default=(), repr=False)
+
+    @property
+    def marker(self) -> Optional[str]:
+        """The marker of the first place that isn't covered. None if it is in all environments, or if there is none."""
+        return None if self.place == _EVERYWHERE else self.place
+
+    def __bool__(self) -> bool:
+        return self.package is None
+
+    def __str__(self) -> str:
+        return "yes" if self else f"no\n{self.package}\n{self.place}\n{','.join(self.places or map(str, self.lines))}"
 
 
 @dataclass(frozen=True)
@@ -611,6 +636,36 @@ def same(
     answer = answered(_native.same, *inputs, numbers=numbers)
     lines = _native.lines_of(answer)
     return Comparison() if lines == ["yes"] else Comparison(lines[1], lines[2])
+
+
+def covers(
+    lock: Requirements, requirements: Requirements, limit: int = LIMIT, *, nodes: Most = USUAL, clauses: Most = USUAL,
+    cases: Most = USUAL,
+) -> Covering:  # fmt: skip
+    """Whether a lock requires whatever requirements do, whatever the truth of their markers is, and if not, where it
+    first doesn't, and by which lines of the requirements.
+
+    It has to require each package that they require, with at least their extras, and only points of versions that all
+    their ranges have. What it requires besides makes no difference, and neither does whether a specifier names a
+    pre-release. Lists that require the same, as `same` says, cover each other. Raises `InvalidInput` for what `same`
+    refuses: a list that is refused, the first line that can't be compared, as one with a URL or with `===`, and a
+    package with more cases than `limit`.
+
+    `nodes`, `clauses` and `cases` are bounds as those of `same`.
+
+    >>> bool(covers("foo[a,b]==1.2\\nbar==1", "foo[b]>=1"))
+    True
+    >>> covers("foo==1.2 ; os_name == 'nt'", "foo>=1")
+    Covering(package='foo', place="os_name != 'nt'", lines=(1,))
+    """
+    inputs = _asking_input(lock, "lock"), _asking_input(requirements)
+    numbers = _checked(limit), most_nodes(nodes), most_clauses(clauses), most_cases(cases)
+    lines = _native.lines_of(answered(_native.covers, *inputs, numbers=numbers))
+    if lines == ["yes"]:
+        return Covering()
+    found, listing = tuple(map(int, lines[3].split(","))), inputs[1].listing
+    places = () if listing is None else tuple(str(listing.place(at).beside(listing.path)) for at in found)
+    return Covering(lines[1], lines[2], found, places)
 
 
 def conflicts(

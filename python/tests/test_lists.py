@@ -160,6 +160,19 @@ class Answers(unittest.TestCase):
         self.assertEqual((everywhere.place, everywhere.marker), ("all environments", None))
         self.assertIsNone(fowlyore.same("foo", "foo").marker)
 
+    def test_covers(self):
+        self.assertTrue(fowlyore.covers("foo==1.2", "foo>=1"))
+        self.assertTrue(fowlyore.covers("foo[a,b]==1\nbar==2", "foo[b]"))
+        answer = fowlyore.covers("foo==1.2 ; os_name=='nt'", "# names\nfoo>=1")
+        self.assertEqual((bool(answer), answer.package, answer.place, answer.lines), (False, "foo", "os_name != 'nt'", (2,)))
+        self.assertEqual(answer.marker, answer.place)
+        self.assertEqual(str(answer), "no\nfoo\nos_name != 'nt'\n2")
+        everywhere = fowlyore.covers("foo", "foo<1\nfoo[a]")
+        self.assertEqual((everywhere.place, everywhere.marker, everywhere.lines), ("all environments", None, (1, 2)))
+        self.assertEqual((fowlyore.covers("foo", "foo").marker, str(fowlyore.covers("foo", ""))), (None, "yes"))
+        before, after = (EXAMPLES / "lock" / f"{it}.txt" for it in ("before", "rewritten"))
+        self.assertTrue(fowlyore.covers(before, after) and fowlyore.covers(after, before))
+
     def test_conflicts(self):
         found = fowlyore.conflicts(EXAMPLES / "apart" / "requirements.txt")
         self.assertEqual(found, [fowlyore.Conflict("numpy", (2, 7), False)])
@@ -200,6 +213,8 @@ class Refusals(unittest.TestCase):
 
     def test_which_input(self):
         self.assertEqual(self.refused(fowlyore.same, "a", "b b").input, "right")
+        self.assertEqual(self.refused(fowlyore.covers, "a a", "b").input, "lock")
+        self.assertEqual(self.refused(fowlyore.covers, "a", "b @ https://e.example/b").input, "requirements")
         self.assertEqual(self.refused(fowlyore.check, "a", "{}", "").input, "environment")
         self.assertEqual(self.refused(fowlyore.check, "a", "[", "").input, "environment")
         error = self.refused(fowlyore.check, "a", None, "a 1\na x\n")

@@ -49,6 +49,7 @@ CALLS = {
     "matrix": (lambda: LINES, lambda it: [shown(of) for of in fowlyore.matrix(it, [ENVIRONMENT] * 2, {"foo": "1.5"})],
                [["foo[a,b,c] 1.5"]] * 2),
     "same": (lambda: "foo==1.*", lambda it: str(fowlyore.same(it, "foo==1.0.*")), "no\nfoo\nall environments"),
+    "covers": (lambda: "foo==1", lambda it: str(fowlyore.covers(it, "foo>=1\nfoo>1")), "no\nfoo\nall environments\n1,2"),
     "conflicts": (lambda: ["foo>=2", "foo<1 ; os_name == 'a'"], lambda it: shown(fowlyore.conflicts(it)), ["foo 1,2"]),
     "normal": (lambda: 'Foo_Bar [b , a] < 2.0 , >= 1.16 ; python_version >= "3.8"', fowlyore.normal,
                ["foo-bar[b,a]>=1.16,<2.0 ; python_full_version >= '3.8'"]),

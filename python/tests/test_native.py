@@ -14,7 +14,7 @@ HEADER = pathlib.Path(__file__).resolve().parents[2] / "include" / "reqs.h"
 TYPES = {"uint32_t": ctypes.c_uint32, "int64_t": ctypes.c_int64, "reqs_reply": _native.Reply}
 TEXT, ROOM = [ctypes.c_char_p, ctypes.c_size_t], [ctypes.c_void_p, ctypes.c_size_t]
 # What the package doesn't call: versions compare by keys that it makes, and its answers are values.
-UNUSED = {"reqs_version_order", *(f"reqs_{it}_json" for it in ("check", "matrix", "same", "conflicts", "normal"))}
+UNUSED = {"reqs_version_order", *(f"reqs_{it}_json" for it in ("check", "matrix", "same", "covers", "conflicts", "normal"))}
 
 
 def prototypes():

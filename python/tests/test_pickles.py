@@ -48,6 +48,7 @@ def constrained():
 MADE = {
     "Comparison": [lambda: fowlyore.same("a", "a"), lambda: fowlyore.same("a", "a ; os_name == 'nt'")],
     "Conflict": [lambda: fowlyore.conflicts("a<1\na>2.0rc1")[0]],
+    "Covering": [lambda: fowlyore.covers("a", "a"), lambda: fowlyore.covers("a", "a\nb ; os_name == 'nt'")],
     "InvalidInput": [lambda: error_of(fowlyore.normal, "a\nb=1"), lambda: error_of(fowlyore.check, "a", "{}", "")],
     "InvalidName": [lambda: error_of(partial(canonicalize_name, validate=True), "-")],
     "InvalidSdistFilename": [lambda: error_of(parse_sdist_filename, "foo-x.zip")],
@@ -107,7 +108,7 @@ def parts_of(value):
 def used(value):
     """The value once each part of it was asked for."""
     parts_of(value)
-    if not isinstance(value, (Exception, fowlyore.Comparison)):
+    if not isinstance(value, (Exception, fowlyore.Comparison, fowlyore.Covering)):
         hash(value)
     return value
 

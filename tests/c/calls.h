@@ -3,8 +3,8 @@
 #include "reqs.h"
 
 enum {
-    CHECK, MATRIX, SAME, CONFLICTS, NORMAL, CHECK_JSON, MATRIX_JSON, SAME_JSON, CONFLICTS_JSON, NORMAL_JSON, VERSION, KEY,
-    ORDER, SPECIFIERS, TAKE, RANGES_DISJOINT, SUBSET, EMPTY, REQUIREMENT, CHECKED, MARKER, MARKER_KEY, TRUTH, DISJOINT, IMPLIES,
+    CHECK, MATRIX, SAME, COVERS, CONFLICTS, NORMAL, CHECK_JSON, MATRIX_JSON, SAME_JSON, COVERS_JSON, CONFLICTS_JSON, NORMAL_JSON,
+    VERSION, KEY, ORDER, SPECIFIERS, TAKE, RANGES_DISJOINT, SUBSET, EMPTY, REQUIREMENT, CHECKED, MARKER, MARKER_KEY, TRUTH, DISJOINT, IMPLIES,
     NEGATED, PYTHON, EXTRAS, HOLD, ABI,
     CALLS
 };
@@ -31,6 +31,8 @@ static reqs_reply made(uint64_t which, const uint8_t *const *text, const uint64_
         return reqs_matrix(T(0), T(1), T(2), T(3), most->limit, most->nodes, most->cases, out, room);
     case SAME:
         return reqs_same(T(0), T(1), most->limit, most->nodes, most->clauses, most->cases, out, room);
+    case COVERS:
+        return reqs_covers(T(0), T(1), most->limit, most->nodes, most->clauses, most->cases, out, room);
     case CONFLICTS:
         return reqs_conflicts(T(0), most->limit, most->nodes, most->cases, out, room);
     case NORMAL:
@@ -41,6 +43,8 @@ static reqs_reply made(uint64_t which, const uint8_t *const *text, const uint64_
         return reqs_matrix_json(T(0), T(1), T(2), T(3), most->limit, most->nodes, most->cases, out, room);
     case SAME_JSON:
         return reqs_same_json(T(0), T(1), most->limit, most->nodes, most->clauses, most->cases, out, room);
+    case COVERS_JSON:
+        return reqs_covers_json(T(0), T(1), most->limit, most->nodes, most->clauses, most->cases, out, room);
     case CONFLICTS_JSON:
         return reqs_conflicts_json(T(0), most->limit, most->nodes, most->cases, out, room);
     case NORMAL_JSON:

@@ -140,6 +140,8 @@ static void commands(int count) {
                                    REQS_NO_BOUND, out, sizeof out));
     answered("same", reqs_same(list.bytes, list.length, list.bytes, list.length, 4096, REQS_NO_BOUND, REQS_NO_BOUND,
                                REQS_NO_BOUND, out, sizeof out));
+    answered("covers", reqs_covers(list.bytes, list.length, list.bytes, list.length, 4096, REQS_NO_BOUND, REQS_NO_BOUND,
+                                   REQS_NO_BOUND, out, sizeof out));
     answered("normal", reqs_normal(list.bytes, list.length, REQS_NO_BOUND, REQS_NO_BOUND, out, sizeof out));
     answered("check as JSON", reqs_check_json(list.bytes, list.length, one.bytes, one.length, candidates, 4, asked, 3, out,
                                               sizeof out));
@@ -147,6 +149,8 @@ static void commands(int count) {
                                                 REQS_NO_BOUND, REQS_NO_BOUND, out, sizeof out));
     answered("same as JSON", reqs_same_json(list.bytes, list.length, list.bytes, list.length, 4096, REQS_NO_BOUND,
                                             REQS_NO_BOUND, REQS_NO_BOUND, out, sizeof out));
+    answered("covers as JSON", reqs_covers_json(list.bytes, list.length, list.bytes, list.length, 4096, REQS_NO_BOUND,
+                                                REQS_NO_BOUND, REQS_NO_BOUND, out, sizeof out));
     answered("conflicts as JSON", reqs_conflicts_json(list.bytes, list.length, 4096, REQS_NO_BOUND, REQS_NO_BOUND, out,
                                                       sizeof out));
     answered("normal as JSON", reqs_normal_json(list.bytes, list.length, REQS_NO_BOUND, REQS_NO_BOUND, out, sizeof out));

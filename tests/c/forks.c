@@ -49,6 +49,10 @@ static reqs_reply same(uint8_t *out) {
     return reqs_same(TEXT(REQUIREMENTS), TEXT("a>2\n"), 4096, 1000, 100, 1000, OUT);
 }
 
+static reqs_reply covers(uint8_t *out) {
+    return reqs_covers(TEXT("a>2\n"), TEXT(REQUIREMENTS), 4096, 1000, 100, 1000, OUT);
+}
+
 static reqs_reply conflicts(uint8_t *out) {
     return reqs_conflicts(TEXT("a<1\na>2\n"), 4096, 1000, 1000, OUT);
 }
@@ -67,6 +71,10 @@ static reqs_reply matrix_json(uint8_t *out) {
 
 static reqs_reply same_json(uint8_t *out) {
     return reqs_same_json(TEXT("a>2\n"), TEXT("a>2\nb; os_name == 'nt'\n"), 4096, 1000, 100, 1000, OUT);
+}
+
+static reqs_reply covers_json(uint8_t *out) {
+    return reqs_covers_json(TEXT("a>2\n"), TEXT("a>2\nb; os_name == 'nt'\n"), 4096, 1000, 100, 1000, OUT);
 }
 
 static reqs_reply conflicts_json(uint8_t *out) {
@@ -167,8 +175,8 @@ static reqs_reply markers_hold(uint8_t *out) {
 
 /* Each call of the header that takes memory, and three that are refused. */
 static reqs_reply (*const CALLS[])(uint8_t *) = {
-    check, matrix, same, conflicts, normal, check_json, matrix_json, same_json, conflicts_json, normal_json, version,
-    no_version, version_key, version_order, specifiers, specifiers_take, specifiers_disjoint, specifiers_subset,
+    check, matrix, same, covers, conflicts, normal, check_json, matrix_json, same_json, covers_json, conflicts_json,
+    normal_json, version, no_version, version_key, version_order, specifiers, specifiers_take, specifiers_disjoint, specifiers_subset,
     specifiers_empty, requirement, marker_check, marker, no_marker, too_many_nodes, marker_key, marker_truth, markers_disjoint, marker_implies,
     marker_negated, marker_simplify_python, marker_simplify_extras, markers_hold};
 #define COUNT (sizeof CALLS / sizeof *CALLS)

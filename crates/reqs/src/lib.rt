@@ -22,4 +22,6 @@ pub use reqs_io_faults::{
     Bounds, Excess, Input, JsonShape, RefusedCause, RefusedWord, RunFault, Status,
 };
 pub use reqs_json::Format;
-pub use reqs_lists::{conflicts, conflicts_within, normal, normal_within, same, same_within};
+pub use reqs_lists::{
+    conflicts, conflicts_within, covers, covers_within, normal, normal_within, same, same_within,
+};

@@ -5,7 +5,8 @@
 //! message stays text. Bounds are those of `lists.rt`.
 
 ghost use Rattle.reqs_c_reply.specs.Endings.{RepliesAs};
-ghost use Rattle.reqs_c_lists.specs.Commands.{CheckEnds, MatrixEnds, SameEnds, ConflictsEnd, NormalEnds};
+ghost use Rattle.reqs_c_lists.specs.Commands.{CheckEnds, MatrixEnds, SameEnds, CoversEnds};
+ghost use Rattle.reqs_c_lists.specs.Commands.{ConflictsEnd, NormalEnds};
 
 use reqs_c_lists::Bounds;
 use reqs_c_reply::Reply;
@@ -99,6 +100,32 @@ pub extern "C" fn reqs_same_json(
         cases,
     };
     reqs_c_lists::same(alloc, left, right, limit, bounds, Format::Json, out)
+}
+
+/// The JSON that `reqs covers` prints on a lock and requirements with `--format json`. No package may have
+/// more cases than `limit`.
+#[unsafe(no_mangle)]
+pub extern "C" fn reqs_covers_json(
+    alloc: Global,
+    lock: &[u8],
+    requirements: &[u8],
+    limit: u64,
+    nodes: usize,
+    clauses: usize,
+    cases: u64,
+    out: &mut [u8],
+) -> Reply
+    ensures { RepliesAs
+        (CoversEnds Format.Json limit (record { nodes = nodes; clauses = clauses; cases = cases })
+        lock.now requirements.now)
+        out.old out.new result }
+{
+    let bounds = Bounds {
+        nodes,
+        clauses,
+        cases,
+    };
+    reqs_c_lists::covers(alloc, lock, requirements, limit, bounds, Format::Json, out)
 }
 
 /// The JSON that `reqs conflicts` prints on a list with `--format json`. No package may have more cases than

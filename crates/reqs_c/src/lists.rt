@@ -5,7 +5,8 @@
 //! have together; `usize::MAX` and `u64::MAX` are no bound.
 
 ghost use Rattle.reqs_c_reply.specs.Endings.{RepliesAs};
-ghost use Rattle.reqs_c_lists.specs.Commands.{CheckEnds, MatrixEnds, SameEnds, ConflictsEnd, NormalEnds};
+ghost use Rattle.reqs_c_lists.specs.Commands.{CheckEnds, MatrixEnds, SameEnds, CoversEnds};
+ghost use Rattle.reqs_c_lists.specs.Commands.{ConflictsEnd, NormalEnds};
 
 use reqs_c_lists::Bounds;
 use reqs_c_reply::Reply;
@@ -97,6 +98,31 @@ pub extern "C" fn reqs_same(
         cases,
     };
     reqs_c_lists::same(alloc, left, right, limit, bounds, Format::Text, out)
+}
+
+/// The answer of `reqs covers` on a lock and requirements. No package may have more cases than `limit`.
+#[unsafe(no_mangle)]
+pub extern "C" fn reqs_covers(
+    alloc: Global,
+    lock: &[u8],
+    requirements: &[u8],
+    limit: u64,
+    nodes: usize,
+    clauses: usize,
+    cases: u64,
+    out: &mut [u8],
+) -> Reply
+    ensures { RepliesAs
+        (CoversEnds Format.Text limit (record { nodes = nodes; clauses = clauses; cases = cases })
+        lock.now requirements.now)
+        out.old out.new result }
+{
+    let bounds = Bounds {
+        nodes,
+        clauses,
+        cases,
+    };
+    reqs_c_lists::covers(alloc, lock, requirements, limit, bounds, Format::Text, out)
 }
 
 /// The answer of `reqs conflicts` on a list. No package may have more cases than `limit`.

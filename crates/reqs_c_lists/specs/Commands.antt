@@ -11,6 +11,7 @@ use Rattle.reqs_io_faults.specs.declared.bounds.Bounds.{Bounds}
 use Rattle.reqs_io_faults.specs.Inputs.{input_limit}
 use Rattle.reqs_io_faults.specs.Within.{RefusesOr}
 use Rattle.reqs_lists.specs.Comparison.{SameAnswersWithin, SamePasses, SameRefusesWithin}
+use Rattle.reqs_lists.specs.Covered.{CoversAnswersWithin, CoversPasses}
 use Rattle.reqs_lists.specs.Contradictions.{ConflictsAnswerWithin, ConflictsPass, ConflictsRefuseWithin}
 use Rattle.reqs_lists.specs.Normal.{NormalAnswersWithin, NormalPasses, NormalRefusesWithin}
 use Rattle.reqs_answers.specs.Check.{ChecksAs, CheckRefuses}
@@ -78,6 +79,9 @@ matrix_names = codes "requirements" ∷ codes "environments" ∷ codes "candidat
 abbrev pub same_names : List (List ℕ)
 same_names = codes "left" ∷ codes "right" ∷ []
 
+abbrev pub covers_names : List (List ℕ)
+covers_names = codes "lock" ∷ codes "requirements" ∷ []
+
 abbrev pub list_names : List (List ℕ)
 list_names = codes "requirements" ∷ []
 
@@ -112,6 +116,17 @@ SameEndsWith format limit bounds vars =
 
 abbrev pub SameEnds : Format → ℕ → Bounds → List ℕ → List ℕ → Ending → Type 0
 SameEnds format limit bounds left right = SameEndsWith format limit bounds no_variables (left ∷ right ∷ [])
+
+-- `reqs covers` within bounds
+abbrev pub CoversEndsWith : Format → ℕ → Bounds → Variables → List (List ℕ) → Ending → Type 0
+CoversEndsWith format limit bounds vars =
+    WithNodes (λ nodes. CoversAnswersWithin bounds nodes format limit vars)
+    (λ nodes. RefusesOr (CoversPasses bounds nodes limit vars) (SameRefusesWithin bounds limit vars))
+    (IsToldAt covers_names 0)
+
+abbrev pub CoversEnds : Format → ℕ → Bounds → List ℕ → List ℕ → Ending → Type 0
+CoversEnds format limit bounds lock requirements =
+    CoversEndsWith format limit bounds no_variables (lock ∷ requirements ∷ [])
 
 -- `reqs conflicts` within bounds
 abbrev pub ConflictsEndWith : Format → ℕ → Bounds → Variables → List (List ℕ) → Ending → Type 0

@@ -9,5 +9,5 @@ mod refused_inputs;
 
 pub use checking::{check, matrix};
 pub use holding::markers_hold;
-pub use list_answers::{conflicts, normal, same};
+pub use list_answers::{conflicts, covers, normal, same};
 pub use reqs_io_faults::Bounds;

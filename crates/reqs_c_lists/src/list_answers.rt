@@ -2,8 +2,9 @@
 
 ghost use Rattle.std.specs.Prelude.{◌∷◌, []};
 ghost use Rattle.reqs_c_reply.specs.Endings.{RepliesAs, ending_of};
-ghost use Rattle.reqs_c_lists.specs.Commands.{SameEnds, ConflictsEnd, NormalEnds};
-ghost use Rattle.reqs_c_lists.specs.Commands.{SameEndsWith, ConflictsEndWith, NormalEndsWith};
+ghost use Rattle.reqs_c_lists.specs.Commands.{SameEnds, CoversEnds, ConflictsEnd, NormalEnds};
+ghost use Rattle.reqs_c_lists.specs.Commands.{SameEndsWith, CoversEndsWith};
+ghost use Rattle.reqs_c_lists.specs.Commands.{ConflictsEndWith, NormalEndsWith};
 
 use crate::ending::ended;
 use pep508_tree::Interner;
@@ -16,6 +17,9 @@ use std::alloc::Global;
 
 /// The names of the inputs of `same` in messages.
 const SAME_NAMES: [&str; 2] = ["left", "right"];
+
+/// The names of the inputs of `covers` in messages.
+const COVERS_NAMES: [&str; 2] = ["lock", "requirements"];
 
 /// The name of the input of the other commands in messages.
 const LIST_NAMES: [&str; 1] = ["requirements"];
@@ -90,6 +94,76 @@ fn compared_with(
     );
     interner.are_sound();
     ended(alloc, ran, text, &SAME_NAMES, NO_EXTRAS)
+}
+
+/// Replies with what `reqs::covers` writes in this format, with at most `limit` cases for a package and within
+/// the bounds. Ends with `Ended::Different` for a lock that doesn't cover the requirements. Needs memory for
+/// copies of the lists, in addition to what the command needs.
+///
+/// # Errors
+///
+/// Refuses what `reqs_lists::covers_within` does, as a line with a URL or with `===`, with its message as text
+/// and the place of what is wrong. Status 3 when memory runs out.
+pub fn covers(
+    alloc: Global,
+    lock: &[u8],
+    requirements: &[u8],
+    limit: u64,
+    bounds: Bounds,
+    format: Format,
+    out: &mut [u8],
+) -> Reply
+    ensures { RepliesAs (CoversEnds format limit bounds lock.now requirements.now) out.old out.new result }
+{
+    covered(alloc, lock, requirements, limit, bounds, format).reply(out)
+}
+
+/// How `covers` ends.
+fn covered(
+    alloc: Global,
+    lock: &[u8],
+    requirements: &[u8],
+    limit: u64,
+    bounds: Bounds,
+    format: Format,
+) -> Ended
+    ensures { CoversEnds format limit bounds lock.now requirements.now (ending_of result) }
+{
+    let Ok(vars) = no_variables(alloc) else {
+        return Ended::OutOfMemory;
+    };
+    covered_with(alloc, lock, requirements, limit, bounds, &vars, format)
+}
+
+/// How `covers` ends with these variables.
+fn covered_with(
+    alloc: Global,
+    lock: &[u8],
+    requirements: &[u8],
+    limit: u64,
+    bounds: Bounds,
+    vars: &Vars,
+    format: Format,
+) -> Ended
+    ensures { CoversEndsWith format limit bounds vars.now (lock.now ∷ requirements.now ∷ [])
+        (ending_of result) }
+{
+    let (mut lock, mut requirements) = (lock, requirements);
+    let mut interner = Interner::with_most(alloc, bounds.nodes);
+    let mut text = Vec::new(alloc);
+    let ran = reqs_lists::covers_within(
+        alloc,
+        &mut lock,
+        &mut requirements,
+        vars,
+        limit,
+        format,
+        bounds,
+        &mut interner,
+        &mut text,
+    );
+    interner.are_sound();
+    ended(alloc, ran, text, &COVERS_NAMES, NO_EXTRAS)
 }
 
 /// Replies with what `reqs::conflicts` writes in this format, with at most `limit` cases for a package and

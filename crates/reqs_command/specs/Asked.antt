@@ -8,13 +8,14 @@ use Rattle.reqs_io_faults.specs.declared.bounds.Bounds.{Bounds}
 use Rattle.reqs_json.specs.declared.format.Format.{Format}
 use Rattle.reqs_json.specs.declared.format.Format.TheVariants.{Text, Json}
 use Rattle.reqs_command.specs.declared.request.Asked.{Asked}
-use Rattle.reqs_command.specs.declared.request.Asked.TheVariants.{Check, Matrix, Same, Conflicts, Normal}
+use Rattle.reqs_command.specs.declared.request.Asked.TheVariants.{Check, Matrix, Same, Covers, Conflicts, Normal}
 
 -- the word that names a command
 abbrev pub name_of : Asked → List ℕ
 name_of Check = codes "check"
 name_of (Matrix limit) = codes "matrix"
 name_of (Same limit) = codes "same"
+name_of (Covers limit) = codes "covers"
 name_of (Conflicts limit) = codes "conflicts"
 name_of Normal = codes "normal"
 
@@ -23,6 +24,7 @@ abbrev pub input_words : Asked → List (List ℕ)
 input_words Check = codes "REQS" ∷ codes "ENV" ∷ codes "CANDIDATES" ∷ []
 input_words (Matrix limit) = codes "REQS" ∷ codes "ENVS" ∷ codes "CANDIDATES" ∷ []
 input_words (Same limit) = codes "LEFT" ∷ codes "RIGHT" ∷ []
+input_words (Covers limit) = codes "LOCK" ∷ codes "REQS" ∷ []
 input_words (Conflicts limit) = codes "REQS" ∷ []
 input_words Normal = codes "REQS" ∷ []
 
@@ -31,6 +33,7 @@ abbrev pub limit_in : Asked → Option ℕ
 limit_in Check = None
 limit_in (Matrix limit) = Some limit
 limit_in (Same limit) = Some limit
+limit_in (Covers limit) = Some limit
 limit_in (Conflicts limit) = Some limit
 limit_in Normal = None
 
@@ -73,7 +76,7 @@ AsksFor name found None = (asked : Asked) → IsAsked name found asked → ⊥
 abbrev pub NamesLimited : List ℕ → ℕ → Option Asked → Type 0
 NamesLimited name limit (Some asked) = (name ≡ name_of asked) × (limit_in asked ≡ Some limit)
 NamesLimited name limit None =
-    (name ≢ codes "matrix") × (name ≢ codes "same") × (name ≢ codes "conflicts")
+    (name ≢ codes "matrix") × (name ≢ codes "same") × (name ≢ codes "covers") × (name ≢ codes "conflicts")
 
 -- a word names a format: `json` for JSON, any other word for text
 abbrev pub NamesFormat : List ℕ → Format → Type 0

@@ -19,10 +19,11 @@ use Rattle.reqs_lists.specs.Comparison.{SameAnswersAs, SameAnswersWithin, SameRe
 use Rattle.reqs_lists.specs.Comparison.{SamePasses}
 use Rattle.reqs_lists.specs.Contradictions.{ConflictsAnswerAs, ConflictsRefuse}
 use Rattle.reqs_lists.specs.Contradictions.{ConflictsAnswerWithin, ConflictsRefuseWithin, ConflictsPass}
+use Rattle.reqs_lists.specs.Covered.{CoversAnswersAs, CoversAnswersWithin, CoversPasses}
 use Rattle.reqs_lists.specs.Normal.{NormalAnswersAs, NormalAnswersWithin, NormalRefuses, NormalRefusesWithin}
 use Rattle.reqs_lists.specs.Normal.{NormalPasses}
 use Rattle.reqs_command.specs.declared.request.Asked.{Asked}
-use Rattle.reqs_command.specs.declared.request.Asked.TheVariants.{Check, Matrix, Same, Conflicts, Normal}
+use Rattle.reqs_command.specs.declared.request.Asked.TheVariants.{Check, Matrix, Same, Covers, Conflicts, Normal}
 use Rattle.reqs_command.specs.declared.opened.Opened.{Opened}
 use Rattle.reqs_command.specs.declared.opened.Opened.TheVariants as opened
 
@@ -33,6 +34,7 @@ abbrev pub answering : Asked → Format → Variables → List (List ℕ) → An
 answering Check format vars extras = ChecksAs format vars extras
 answering (Matrix limit) format vars extras = MatrixAnswersAs format limit vars extras
 answering (Same limit) format vars extras = SameAnswersAs format limit vars
+answering (Covers limit) format vars extras = CoversAnswersAs format limit vars
 answering (Conflicts limit) format vars extras = ConflictsAnswerAs format limit vars
 answering Normal format vars extras = NormalAnswersAs format vars
 
@@ -41,6 +43,7 @@ abbrev pub refusing : Asked → Variables → List (List ℕ) → Refusing
 refusing Check vars extras = CheckRefuses vars extras
 refusing (Matrix limit) vars extras = MatrixRefuses limit vars extras
 refusing (Same limit) vars extras = SameRefuses limit vars
+refusing (Covers limit) vars extras = SameRefuses limit vars
 refusing (Conflicts limit) vars extras = ConflictsRefuse limit vars
 refusing Normal vars extras = NormalRefuses vars
 
@@ -60,6 +63,8 @@ answering_within bounds nodes (Matrix limit) format vars extras =
     MatrixAnswersWithin bounds nodes format limit vars extras
 answering_within bounds nodes (Same limit) format vars extras =
     SameAnswersWithin bounds nodes format limit vars
+answering_within bounds nodes (Covers limit) format vars extras =
+    CoversAnswersWithin bounds nodes format limit vars
 answering_within bounds nodes (Conflicts limit) format vars extras =
     ConflictsAnswerWithin bounds nodes format limit vars
 answering_within bounds nodes Normal format vars extras = NormalAnswersWithin bounds nodes format vars
@@ -71,6 +76,8 @@ refusing_within bounds nodes (Matrix limit) vars extras =
     RefusesOr (MatrixPasses bounds nodes limit vars extras) (MatrixRefusesWithin bounds limit vars extras)
 refusing_within bounds nodes (Same limit) vars extras =
     RefusesOr (SamePasses bounds nodes limit vars) (SameRefusesWithin bounds limit vars)
+refusing_within bounds nodes (Covers limit) vars extras =
+    RefusesOr (CoversPasses bounds nodes limit vars) (SameRefusesWithin bounds limit vars)
 refusing_within bounds nodes (Conflicts limit) vars extras =
     RefusesOr (ConflictsPass bounds nodes limit vars) (ConflictsRefuseWithin bounds limit vars)
 refusing_within bounds nodes Normal vars extras =
@@ -99,6 +106,7 @@ abbrev pub inputs_of : Asked → List Input
 inputs_of Check = First ∷ Second ∷ Third ∷ []
 inputs_of (Matrix limit) = First ∷ Second ∷ Third ∷ []
 inputs_of (Same limit) = First ∷ Second ∷ []
+inputs_of (Covers limit) = First ∷ Second ∷ []
 inputs_of (Conflicts limit) = First ∷ []
 inputs_of Normal = First ∷ []
 
@@ -107,6 +115,7 @@ abbrev pub asked_of : {S : Type 0} → Opened S → Asked
 asked_of (opened.Check requirements environment candidates) = Check
 asked_of (opened.Matrix requirements environments candidates limit) = Matrix limit
 asked_of (opened.Same left right limit) = Same limit
+asked_of (opened.Covers lock requirements limit) = Covers limit
 asked_of (opened.Conflicts requirements limit) = Conflicts limit
 asked_of (opened.Normal requirements) = Normal
 
@@ -115,6 +124,7 @@ readers_of (opened.Check requirements environment candidates) = requirements ∷
 readers_of (opened.Matrix requirements environments candidates limit) =
     requirements ∷ environments ∷ candidates ∷ []
 readers_of (opened.Same left right limit) = left ∷ right ∷ []
+readers_of (opened.Covers lock requirements limit) = lock ∷ requirements ∷ []
 readers_of (opened.Conflicts requirements limit) = requirements ∷ []
 readers_of (opened.Normal requirements) = requirements ∷ []
 

@@ -10,7 +10,9 @@ use pep508_url::Vars;
 use reqs_answers::{check, matrix, matrix_within};
 use reqs_io_faults::{Bounds, Input, RunFault, Status};
 use reqs_json::Format;
-use reqs_lists::{conflicts, conflicts_within, normal, normal_within, same, same_within};
+use reqs_lists::{
+    conflicts, conflicts_within, covers, covers_within, normal, normal_within, same, same_within,
+};
 use std::alloc::Global;
 use std::io::{Read, Write};
 
@@ -31,6 +33,11 @@ pub enum Opened<S: Drop> {
     Same {
         left: S,
         right: S,
+        limit: u64,
+    },
+    Covers {
+        lock: S,
+        requirements: S,
         limit: u64,
     },
     Conflicts {
@@ -70,6 +77,11 @@ where
         Asked::Same { limit } => Ok(Opened::Same {
             left: first,
             right: opener(Input::Second)?,
+            limit,
+        }),
+        Asked::Covers { limit } => Ok(Opened::Covers {
+            lock: first,
+            requirements: opener(Input::Second)?,
             limit,
         }),
         Asked::Conflicts { limit } => Ok(Opened::Conflicts {
@@ -136,6 +148,13 @@ fn run_within<S: Read + Drop, W: Write>(
         Opened::Same { left, right, limit } => same_within(
             alloc, left, right, vars, *limit, format, bounds, &mut nodes, output,
         ),
+        Opened::Covers {
+            lock: first,
+            requirements: second,
+            limit,
+        } => covers_within(
+            alloc, first, second, vars, *limit, format, bounds, &mut nodes, output,
+        ),
         Opened::Conflicts {
             requirements: first,
             limit,
@@ -194,6 +213,11 @@ fn run_unbounded<S: Read + Drop, W: Write>(
         Opened::Same { left, right, limit } => same(
             alloc, left, right, vars, *limit, format, output,
         ),
+        Opened::Covers {
+            lock,
+            requirements,
+            limit,
+        } => covers(alloc, lock, requirements, vars, *limit, format, output),
         Opened::Conflicts {
             requirements,
             limit,

@@ -25,6 +25,7 @@ pub enum Asked {
     /// No package may have more cases than `limit`, here and in the commands below.
     Matrix { limit: u64 },
     Same { limit: u64 },
+    Covers { limit: u64 },
     Conflicts { limit: u64 },
     Normal,
 }
@@ -51,6 +52,7 @@ impl Asked {
         match name {
             "matrix" => Some(Asked::Matrix { limit }),
             "same" => Some(Asked::Same { limit }),
+            "covers" => Some(Asked::Covers { limit }),
             "conflicts" => Some(Asked::Conflicts { limit }),
             _ => None,
         }
@@ -82,6 +84,7 @@ impl Asked {
             Asked::Same { .. } => {
                 Ok(vec![in alloc; path_at(given, "LEFT"), path_at(given, "RIGHT")]?)
             }
+            Asked::Covers { .. } => Ok(vec![in alloc; path_at(given, "LOCK"), first]?),
             Asked::Conflicts { .. } | Asked::Normal => Ok(vec![in alloc; first]?),
         }
     }
@@ -168,6 +171,7 @@ fn reqs_command<'a>(alloc: Global) -> Result<Command<'a>, AllocError> {
     let reqs = with_command(reqs, check_command(alloc))?;
     let reqs = with_command(reqs, matrix_command(alloc))?;
     let reqs = with_command(reqs, same_command(alloc))?;
+    let reqs = with_command(reqs, covers_command(alloc))?;
     let reqs = with_command(reqs, conflicts_command(alloc))?;
     with_command(reqs, normal_command(alloc))
 }
@@ -225,6 +229,28 @@ fn same_command<'a>(alloc: Global) -> Result<Command<'a>, AllocError> {
             "The one list, one requirement a line, a file; - is standard input, here or for the other",
         ))?
         .arg(input(alloc, "RIGHT", "The other list, a file"))
+}
+
+fn covers_command<'a>(alloc: Global) -> Result<Command<'a>, AllocError> {
+    let covers = Command::new(alloc, "covers").about(
+        "Prints yes where a lock file requires whatever the requirements do, or else where it first \
+         doesn't, and by which lines",
+    );
+    let covers = with_limit(alloc, covers)?;
+    let covers = with_cases(alloc, covers)?;
+    let covers = with_nodes(alloc, covers)?;
+    let covers = with_clauses(alloc, covers)?;
+    with_format(alloc, covers)?
+        .arg(input(
+            alloc,
+            "LOCK",
+            "The lock file, one requirement a line, a file; - is standard input, here or for the other",
+        ))?
+        .arg(input(
+            alloc,
+            "REQS",
+            "The requirements that it has to cover, a file",
+        ))
 }
 
 fn conflicts_command<'a>(alloc: Global) -> Result<Command<'a>, AllocError> {

@@ -5,5 +5,6 @@ pub mod OneDifference
 pub mod Plain
 pub mod RisingSets
 pub mod Told
+pub mod ToldCovers
 pub mod Trees
 pub mod Long

@@ -1,4 +1,5 @@
--- The first line that can't be printed, and the first difference, by the number of clauses.
+-- The first line that can't be printed, the first difference, and the first place that isn't covered, by the number
+-- of clauses.
 use Rattle.std.proofs.Common.{◌≡◌, ◌≤◌, ℕ, Bool, true, false, List, [], ◌∷◌, Option, Some, None, refl, ap, sym, subst}
 use Rattle.std.specs.List.{AllByRecursion}
 use Rattle.pep508_diagram.specs.Diagram.{Diagram}
@@ -11,8 +12,11 @@ use Rattle.reqtable_normal.specs.declared.error.NormalError.TheVariants.{Line}
 use Rattle.reqtable_normal.specs.Bounded.{error_by, exceeds, IsPrintable, IsFirstError}
 use Rattle.reqtable_normal.specs.Normalized.{IsFaultless, IsFirstFault, normal_fault}
 use Rattle.reqtable_normal.proofs.Unbounded.{no_fault}
+use Rattle.reqtable_covers.specs.Covering.{CoversLines}
 use Rattle.reqs_lists.specs.Comparison.{Lists, IsToldDifference, HasFewClauses}
+use Rattle.reqs_lists.specs.Covered.{IsToldUncovered, HasFewUncovered}
 use Rattle.reqs_lists.proofs.OneDifference.{never_told, one_name, one_diagram}
+use Rattle.reqs_lists.proofs.OneDifference.{never_uncovered, one_uncovered_name, one_uncovered_diagram}
 
 line_by : (line number : ℕ) (fault : Option NormalCause) (cause : NormalCause) (more : Bool)
     → error_by line fault more ≡ Some (Line number cause) → (number ≡ line) × (fault ≡ Some cause)
@@ -60,3 +64,17 @@ told_few most lists name diagram told few other also h =
     let P : Diagram Question → Type 0 = λ d. clause_count d ≤ most in
     let Q : List ℕ → Type 0 = λ n. IsToldDifference lists n also in
     subst P (one_diagram lists name diagram also told (subst Q (one_name lists other name also diagram h told) h)) few
+
+-- a list that covers another has no place where it doesn't
+pub covers_few : (most : ℕ) (lists : Lists) → CoversLines lists.0 lists.1 → HasFewUncovered most lists
+covers_few most lists covers name diagram numbers told =
+    absurd (never_uncovered lists name diagram numbers covers told)
+
+-- and others have one first place
+pub uncovered_few : (most : ℕ) (lists : Lists) (name : List ℕ) (diagram : Diagram Question) (numbers : List ℕ)
+    → IsToldUncovered lists name diagram numbers → clause_count diagram ≤ most → HasFewUncovered most lists
+uncovered_few most lists name diagram numbers told few other also more h =
+    let P : Diagram Question → Type 0 = λ d. clause_count d ≤ most in
+    let Q : List ℕ → Type 0 = λ n. IsToldUncovered lists n also more in
+    let named = one_uncovered_name lists other name also diagram more numbers h told in
+    subst P (one_uncovered_diagram lists name diagram also numbers more told (subst Q named h)) few

@@ -9,11 +9,17 @@ use Rattle.pep508_marker_text_laws.specs.MarkerText.{marker_text}
 use Rattle.reqtable_conflicts.specs.Contradictions.{ConflictRecord}
 use Rattle.reqs_json.proofs.Plain.{plain_items, plain_numbers, plain_texts, plain_or_null}
 use Rattle.reqs_lists.specs.Comparison.{difference_value}
+use Rattle.reqs_lists.specs.Covered.{uncovered_value}
 use Rattle.reqs_lists.specs.Contradictions.{conflict_value, conflicts_value}
 use Rattle.reqs_lists.specs.Normal.{normal_value}
 
 pub plain_difference : (name : List ℕ) (diagram : Diagram Question) → has_float (difference_value name diagram) ≡ false
 plain_difference name diagram = rw (plain_or_null string (λ text. refl) (marker_text diagram)) refl
+
+pub plain_uncovered : (name : List ℕ) (diagram : Diagram Question) (numbers : List ℕ)
+    → has_float (uncovered_value name diagram numbers) ≡ false
+plain_uncovered name diagram numbers =
+    rw (plain_numbers numbers, plain_or_null string (λ text. refl) (marker_text diagram)) refl
 
 plain_conflict : (found : ConflictRecord) → has_float (conflict_value found) ≡ false
 plain_conflict found = rw (plain_numbers found.numbers) refl

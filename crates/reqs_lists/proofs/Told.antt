@@ -34,7 +34,7 @@ use Rattle.reqs_lists.specs.Normal.{HasFaultyLine, NormalAnswersWithin, NormalRe
 use Rattle.reqs_lists.proofs.Long.{first_fault}
 
 -- what refuses lists may be said of them, where that may which refuses what they are read as
-may_be_said : {A : Type 0} (IsOne : RunFault → Type 0) (Declines : Refused A) (lists : Result A Cause)
+pub may_be_said : {A : Type 0} (IsOne : RunFault → Type 0) (Declines : Refused A) (lists : Result A Cause)
     (fault : RunFault) → ((read : A) → Declines read fault → IsOne fault)
     → RefusesLists IsOne Declines lists fault → IsOne fault
 may_be_said IsOne Declines lists fault each (inl h) = h.0
@@ -63,7 +63,7 @@ module _ (vars : Variables) (inputs : List (List ℕ)) where
         → IsOfLists vars inputs fault
     of_too_many limit most lines h = subst (IsOfLists vars inputs) (sym h.1) tt
 
-    of_not_compared : (limit most : ℕ) (lists : Lists) → CantBeWithin limit most lists fault
+    pub of_not_compared : (limit most : ℕ) (lists : Lists) → CantBeWithin limit most lists fault
         → IsOfLists vars inputs fault
     of_not_compared limit most lists h = subst (IsOfLists vars inputs) (sym h.1) (of_error limit h.0)
 
@@ -72,7 +72,7 @@ first_excess : (vars : Variables) (most : ℕ) (nodes : List NodeRecord) (inputs
     → PassesInFirst vars most nodes inputs fault → IsExcess fault
 first_excess vars most nodes inputs fault h = subst IsExcess (sym h.1) tt
 
-either_excess : (vars : Variables) (most : ℕ) (nodes : List NodeRecord) (inputs : List (List ℕ)) (fault : RunFault)
+pub either_excess : (vars : Variables) (most : ℕ) (nodes : List NodeRecord) (inputs : List (List ℕ)) (fault : RunFault)
     → PassesInEither vars most nodes inputs fault → IsExcess fault
 either_excess vars most nodes inputs fault (inl h) = first_excess vars most nodes inputs fault h
 either_excess vars most nodes inputs fault (inr h) = subst IsExcess (sym h.2.1) tt
@@ -101,7 +101,7 @@ same_excess bounds nodes limit vars inputs fault (inr h) =
 module _ {W : Type 0} (contents : W → Option (List ℕ)) (old new : W) (told : List (Option (List ℕ)))
     (inputs : List (List ℕ)) (are_told : AllZip AreAsTold told inputs) (within : AreWithin inputs)
     (vars : Variables) (fault : RunFault) (format : Format) where
-  refused : (Answers : Answering) (Refuses : List (List ℕ) → RunFault → Type 0)
+  pub refused : (Answers : Answering) (Refuses : List (List ℕ) → RunFault → Type 0)
       → IsOfLists vars inputs fault → Refuses inputs fault
       → Runs Answers Refuses told contents old new (Err fault)
   refused Answers Refuses h r =
@@ -109,7 +109,7 @@ module _ {W : Type 0} (contents : W → Option (List ℕ)) (old new : W) (told :
       (λ input error. IsErrorIn vars (text_lines (of_input inputs input)) error) fault h r
 
   -- and within bounds
-  passed : (Answers : Answering) (Refuses : List (List ℕ) → RunFault → Type 0)
+  pub passed : (Answers : Answering) (Refuses : List (List ℕ) → RunFault → Type 0)
       → IsExcess fault → Refuses inputs fault
       → Runs Answers Refuses told contents old new (Err fault)
   passed Answers Refuses h r =
@@ -167,7 +167,7 @@ refuses_plain IsOne Declines Plain lists plain fault (inl h) = inl h
 refuses_plain IsOne Declines Plain lists plain fault (inr h) = inr (h.0, h.1, plain h.0 fault h.2)
 
 -- what is refused within bounds is refused without them, or passed a bound
-wide : (Passes Refused Plain : Refusing)
+pub wide : (Passes Refused Plain : Refusing)
     → ((inputs : List (List ℕ)) (fault : RunFault) → Refused inputs fault → Plain inputs fault)
     → ((inputs : List (List ℕ)) (fault : RunFault) → Passes inputs fault → IsExcess fault)
     → (inputs : List (List ℕ)) (fault : RunFault) → RefusesOr Passes Refused inputs fault
@@ -212,7 +212,7 @@ compared_plain limit most nodes lists (errors.TooManyCases side name) fault e h 
 compared_plain limit most nodes lists (errors.TooManyCasesInAll side) fault e h = (errors.Memory, e, (nodes, tt))
 compared_plain limit most nodes lists errors.Memory fault e h = (errors.Memory, e, (nodes, tt))
 
-same_plain : (bounds : Bounds) (limit : ℕ) (vars : Variables) (inputs : List (List ℕ)) (fault : RunFault)
+pub same_plain : (bounds : Bounds) (limit : ℕ) (vars : Variables) (inputs : List (List ℕ)) (fault : RunFault)
     → SameRefusesWithin bounds limit vars inputs fault → SameRefuses limit vars inputs fault
 same_plain bounds limit vars inputs =
     refuses_plain (IsOfLists vars inputs) (CantBeWithin limit bounds.cases) (CantBeCompared limit)

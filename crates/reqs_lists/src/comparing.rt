@@ -326,7 +326,11 @@ fn difference_value(
 }
 
 /// The text of a tree, or null if it always holds.
-fn marker_value(alloc: Global, tree: MarkerTree, interner: &Interner) -> Result<Value, AllocError>
+pub(crate) fn marker_value(
+    alloc: Global,
+    tree: MarkerTree,
+    interner: &Interner,
+) -> Result<Value, AllocError>
     requires { IsTree interner.now.nodes tree }
     ensures { IfOk result (λ value.
         view value ≡ value_or_null string (marker_text (diagram_of interner.now.nodes tree))) }
@@ -338,7 +342,7 @@ fn marker_value(alloc: Global, tree: MarkerTree, interner: &Interner) -> Result<
 }
 
 /// The text of a difference, as lines.
-fn difference_text(
+pub(crate) fn difference_text(
     alloc: Global,
     name: &PackageName,
     tree: MarkerTree,
@@ -363,7 +367,7 @@ fn difference_lines(alloc: Global, name: &PackageName, place: &str) -> Result<St
 }
 
 /// The fault for two lists that were not compared.
-fn fault_of(error: SameError, limit: u64) -> RunFault
+pub(crate) fn fault_of(error: SameError, limit: u64) -> RunFault
     ensures { result ≡ fault_of limit error }
 {
     match error {
@@ -382,7 +386,7 @@ fn fault_of(error: SameError, limit: u64) -> RunFault
 }
 
 /// The input of a side.
-fn input_of(side: Side) -> Input
+pub(crate) fn input_of(side: Side) -> Input
     ensures { result ≡ input_of side }
 {
     match side {

@@ -67,7 +67,7 @@ fn prerelease_text(names_prerelease: bool) -> &'static str
 }
 
 /// Appends numbers with commas between them.
-fn push_numbers(text: &mut String, numbers: &[usize]) -> Result<(), AllocError>
+pub(crate) fn push_numbers(text: &mut String, numbers: &[usize]) -> Result<(), AllocError>
     ensures { OnOk result (string_bytes text.new
         ≡ string_bytes text.old ++ join_with_byte 44 (map decimal numbers.now)) }
 {

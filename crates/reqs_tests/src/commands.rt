@@ -1,4 +1,4 @@
-//! The five commands on inputs of their own, by the readers and the writer of tests.
+//! The six commands on inputs of their own, by the readers and the writer of tests.
 //!
 //! The answers are worked out from the rules of the commands (`docs/COMMANDS.md`).
 
@@ -7,7 +7,7 @@ use pep508_url::Vars;
 use reqs_answers::{check, matrix};
 use reqs_io_faults::{RunFault, Status};
 use reqs_json::Format;
-use reqs_lists::{conflicts, normal, same};
+use reqs_lists::{conflicts, covers, normal, same};
 use std::alloc::{AllocError, Global};
 
 #[derive(Clone, Copy, Debug, PartialEq, Eq)]
@@ -15,21 +15,23 @@ pub(crate) enum Command {
     Check,
     Matrix,
     Same,
+    Covers,
     Conflicts,
     Normal,
 }
 
 /// Each command.
-pub(crate) const COMMANDS: [Command; 5] = [
+pub(crate) const COMMANDS: [Command; 6] = [
     Command::Check,
     Command::Matrix,
     Command::Same,
+    Command::Covers,
     Command::Conflicts,
     Command::Normal,
 ];
 
 /// Each input of each command, by its place from 1.
-pub(crate) const INPUTS: [(Command, usize); 10] = [
+pub(crate) const INPUTS: [(Command, usize); 12] = [
     (Command::Check, 1),
     (Command::Check, 2),
     (Command::Check, 3),
@@ -38,6 +40,8 @@ pub(crate) const INPUTS: [(Command, usize); 10] = [
     (Command::Matrix, 3),
     (Command::Same, 1),
     (Command::Same, 2),
+    (Command::Covers, 1),
+    (Command::Covers, 2),
     (Command::Conflicts, 1),
     (Command::Normal, 1),
 ];
@@ -75,6 +79,7 @@ pub(crate) fn texts(command: Command) -> Given {
             "foo 1.0\n",
         ),
         Command::Same => ("foo==1.*\n", "foo==1.0.*\n", ""),
+        Command::Covers => ("foo==1.2 ; os_name == 'nt'\n", "foo>=1\nfoo<2\n", ""),
         Command::Conflicts => ("foo>=2\nfoo<1 ; os_name == 'a'\n", "", ""),
         Command::Normal => (
             "Foo_Bar [b , a] < 2.0 , >= 1.16 ; python_version >= \"3.8\"\n",
@@ -84,7 +89,7 @@ pub(crate) fn texts(command: Command) -> Given {
     }
 }
 
-/// Inputs for which the text of the answer is empty; `same` has none.
+/// Inputs for which the text of the answer is empty; `same` and `covers` have none.
 pub(crate) fn texts_of_nothing(command: Command) -> Given {
     match command {
         Command::Check => ("", ENVIRONMENT, "foo 1.0\n"),
@@ -101,6 +106,7 @@ pub(crate) fn answer(command: Command, format: Format) -> &'static str {
             Command::Check => "foo[a,b,c] 1.5\n",
             Command::Matrix => "env 1\nfoo 1.0\nenv 2\n",
             Command::Same => "no\nfoo\nall environments\n",
+            Command::Covers => "no\nfoo\nos_name != 'nt'\n1,2\n",
             Command::Conflicts => "foo 1,2\n",
             Command::Normal => "foo-bar[b,a]>=1.16,<2.0 ; python_full_version >= '3.8'\n",
         },
@@ -119,6 +125,9 @@ fn object(command: Command) -> &'static str {
             \"outcome\":\"version\",\"version\":\"1.0\"}]},{\"number\":2,\"packages\":[]}]}\n"
         }
         Command::Same => "{\"marker\":null,\"package\":\"foo\",\"same\":false}\n",
+        Command::Covers => {
+            "{\"covers\":false,\"lines\":[1,2],\"marker\":\"os_name != 'nt'\",\"package\":\"foo\"}\n"
+        }
         Command::Conflicts => {
             "{\"conflicts\":[{\"lines\":[1,2],\"package\":\"foo\",\"prerelease\":false}]}\n"
         }
@@ -132,14 +141,17 @@ fn object(command: Command) -> &'static str {
 pub(crate) fn behind(command: Command) -> usize {
     match command {
         Command::Check | Command::Matrix => 4,
-        Command::Same => 3,
+        Command::Same | Command::Covers => 3,
         Command::Conflicts | Command::Normal => 2,
     }
 }
 
 /// The exit status of a command on its inputs.
 pub(crate) fn status(command: Command) -> u8 {
-    if command == Command::Same { 1 } else { 0 }
+    match command {
+        Command::Same | Command::Covers => 1,
+        _ => 0,
+    }
 }
 
 /// The readers of a command's inputs; those of inputs that it doesn't have are never called.
@@ -192,6 +204,10 @@ pub(crate) fn run(
         Command::Same => {
             let (left, right) = (&mut inlets.first, &mut inlets.second);
             same(alloc, left, right, &vars, 4096, format, output)
+        }
+        Command::Covers => {
+            let (lock, requirements) = (&mut inlets.first, &mut inlets.second);
+            covers(alloc, lock, requirements, &vars, 4096, format, output)
         }
         Command::Conflicts => { conflicts(alloc, &mut inlets.first, &vars, 4096, format, output) }
         Command::Normal => normal(alloc, &mut inlets.first, &vars, format, output),

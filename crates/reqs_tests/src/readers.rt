@@ -148,6 +148,7 @@ fn calls_an_input_that_is_always_interrupted_up_to_the_limit(rt: HostRuntime) ->
         (Command::Check, 3),
         (Command::Matrix, 2),
         (Command::Same, 2),
+        (Command::Covers, 2),
         (Command::Conflicts, 1),
         (Command::Normal, 1),
     ] {

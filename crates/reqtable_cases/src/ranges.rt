@@ -5,6 +5,7 @@ ghost use Rattle.std.specs.List.{list_all};
 ghost use Rattle.reqtable_range.specs.Together.{lent};
 ghost use Rattle.reqtable_cases.specs.Usable.{agrees_with_range, is_ranged, IsRangeOfMembers};
 
+use pep440_range::agrees_beside_posts;
 use pep440_specifier::{Operator, VersionSpecifier};
 use pep440_version::Version;
 use reqtable_range::{has_range, shared_range};
@@ -59,15 +60,5 @@ fn is_ranged(alloc: Global, member: &VersionSpecifier) -> Result<bool, AllocErro
 fn agrees_with_range(operator: Operator, version: &Version) -> bool
     ensures { result ≡ agrees_with_range operator version.now }
 {
-    match operator {
-        Operator::ExactEqual => false,
-        Operator::LessThan | Operator::GreaterThan => version.post().is_none(),
-        Operator::Equal
-        | Operator::EqualStar
-        | Operator::NotEqual
-        | Operator::NotEqualStar
-        | Operator::TildeEqual
-        | Operator::LessThanEqual
-        | Operator::GreaterThanEqual => true,
-    }
+    agrees_beside_posts(operator, version)
 }

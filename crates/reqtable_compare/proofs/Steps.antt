@@ -54,14 +54,3 @@ zip_next f g R xs ys i x y lt is h one =
     (sym (map-append g (take i ys) (y ∷ []))
     ∙ ap (map g) (ap (λ z. take i ys ++ z ∷ []) is ∙ sym (take_more ys i y lt)))
     (zip_more R (map f xs) (map g (take i ys)) (f x) (g y) h one))
-
-same_pushed : {A B : Type 0} (f : A → B) (xs : List A) (i : ℕ) (x : A) → i < length xs → x ≡ get_or xs i x →
-    map f (take (i + 1) xs) ≡ map f (take i xs) ++ f x ∷ []
-same_pushed f xs i x lt is =
-    ap (map f) (take_more xs i x lt ∙ ap (λ z. take i xs ++ z ∷ []) (sym is)) ∙ map-append f (take i xs) (x ∷ [])
-
-pub same_next : {A B : Type 0} (f : A → B) (xs ys : List A) (i : ℕ) (x y : A) → i < length xs → i < length ys →
-    x ≡ get_or xs i x → y ≡ get_or ys i y → map f (take i xs) ≡ map f (take i ys) → f x ≡ f y →
-    map f (take (i + 1) xs) ≡ map f (take (i + 1) ys)
-same_next f xs ys i x y lt lt' is is' h one =
-    same_pushed f xs i x lt is ∙ (λ j. h j ++ one j ∷ []) ∙ sym (same_pushed f ys i y lt' is')

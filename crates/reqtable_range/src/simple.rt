@@ -1,10 +1,11 @@
 //! Specifiers whose range decides each version, with or without its local part.
 
 ghost use Rattle.std.specs.Prelude.{◌↔◌, IsTrue};
-ghost use Rattle.pep440_range.specs.Agreement.{IsSaid, IsFinal, AgreesEverywhere, IsSimple};
+ghost use Rattle.pep440_range.specs.Agreement.{IsSaid, IsSimple};
 ghost use Rattle.reqtable_range.specs.Sorting.{IsLocal};
 
-use pep440_specifier::{Operator, VersionSpecifier};
+use pep440_range::agrees_everywhere;
+use pep440_specifier::VersionSpecifier;
 use pep440_version::Version;
 
 /// Whether the specifier has no local part, and agrees with its range at all versions.
@@ -31,28 +32,4 @@ pub(crate) fn is_said(version: &Version) -> bool
     ensures { IsTrue result ↔ IsSaid version.now }
 {
     version.min().is_none() && version.max().is_none()
-}
-
-fn agrees_everywhere(operator: Operator, version: &Version) -> bool
-    ensures { IsTrue result ↔ AgreesEverywhere operator version.now }
-{
-    match operator {
-        Operator::ExactEqual => false,
-        Operator::LessThan => version.post().is_none(),
-        Operator::GreaterThan => is_final(version),
-        Operator::Equal
-        | Operator::EqualStar
-        | Operator::NotEqual
-        | Operator::NotEqualStar
-        | Operator::TildeEqual
-        | Operator::LessThanEqual
-        | Operator::GreaterThanEqual => true,
-    }
-}
-
-/// Whether the version is neither a pre-release nor a post-release nor a developmental release.
-fn is_final(version: &Version) -> bool
-    ensures { IsTrue result ↔ IsFinal version.now }
-{
-    version.pre().is_none() && version.post().is_none() && version.dev().is_none()
 }

@@ -96,7 +96,33 @@ pub enum Same {
     },
 }
 
-/// What `same` prints of a difference in all environments, in place of a marker.
+/// Whether a lock covers requirements, as [`covers`](crate::covers) returns it.
+///
+/// ```
+/// use fowlyore::Covers;
+///
+/// let no = Covers::No { package: "foo".into(), marker: Some("os_name == 'nt'".into()), lines: vec![1, 3] };
+/// assert_eq!("no\nfoo\nos_name == 'nt'\n1,3".parse(), Ok(no.clone()));
+/// assert_eq!(no.to_string(), "no\nfoo\nos_name == 'nt'\n1,3");
+/// ```
+#[derive(Clone, Debug, PartialEq, Eq, Hash)]
+pub enum Covers {
+    /// The lock requires whatever the requirements do, whatever the truth of their markers is.
+    Yes,
+    /// It doesn't.
+    No {
+        /// The first package by name that isn't covered.
+        package: String,
+        /// The print of a marker that holds exactly where the first place is at which it isn't, or `None` if
+        /// that is everywhere. The print of a marker without a normal text
+        /// ([`MarkerTree`](crate::MarkerTree)) may not be read back.
+        marker: Option<String>,
+        /// The numbers of the requirements' lines that apply there, from 1, rising.
+        lines: Vec<usize>,
+    },
+}
+
+/// What `same` and `covers` print of a place in all environments, instead of a marker.
 const EVERYWHERE: &str = "all environments";
 
 impl Row {
@@ -223,6 +249,43 @@ impl fmt::Display for Same {
                     "no\n{package}\n{}",
                     marker.as_deref().unwrap_or(EVERYWHERE)
                 )
+            }
+        }
+    }
+}
+
+impl FromStr for Covers {
+    type Err = Refused;
+
+    /// The answer of a text without its last line feed.
+    ///
+    /// # Errors
+    ///
+    /// `Refused` for anything that isn't printed so, also for a name that is not in normal form.
+    fn from_str(text: &str) -> Result<Covers, Refused> {
+        let parts = grammar::covers(text).map_err(|it| refused("covering", it, text))?;
+        Ok(parts.map_or(Covers::Yes, |it| Covers::No {
+            package: it.package.to_owned(),
+            marker: Some(it.place)
+                .filter(|it| *it != EVERYWHERE)
+                .map(String::from),
+            lines: it.lines,
+        }))
+    }
+}
+
+impl fmt::Display for Covers {
+    fn fmt(&self, f: &mut fmt::Formatter<'_>) -> fmt::Result {
+        match self {
+            Covers::Yes => f.pad("yes"),
+            Covers::No {
+                package,
+                marker,
+                lines,
+            } => {
+                let place = marker.as_deref().unwrap_or(EVERYWHERE);
+                let numbers: Vec<String> = lines.iter().map(usize::to_string).collect();
+                write!(f, "no\n{package}\n{place}\n{}", numbers.join(","))
             }
         }
     }

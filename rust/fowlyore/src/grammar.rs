@@ -25,6 +25,14 @@ pub struct ConflictParts<'text> {
     pub names_prerelease: bool,
 }
 
+/// The parts of what `covers` prints of a package that isn't covered.
+#[derive(Clone, Debug, PartialEq, Eq)]
+pub struct UncoveredParts<'text> {
+    pub package: &'text str,
+    pub place: &'text str,
+    pub lines: Vec<usize>,
+}
+
 /// The parts of a row without its line feed: `NAME OUTCOME`, or `NAME[EXTRA,..] OUTCOME` with extras that
 /// rise by their bytes.
 pub fn row(line: &str) -> Result<RowParts<'_>, Misfit> {
@@ -68,20 +76,8 @@ fn extras_at(line: &str, begin: usize) -> Result<(Vec<&str>, usize), Misfit> {
 /// and perhaps ` pre`.
 pub fn conflict(line: &str) -> Result<ConflictParts<'_>, Misfit> {
     let package = name_at(line, 0)?;
-    let mut lines = Vec::new();
-    let mut at = after(line, package.len(), " ", "a blank")?;
-    loop {
-        let (number, end) = number_at(line, at)?;
-        if lines.last().map_or(false, |last| *last >= number) {
-            return misfit(at, "a number after the one before it");
-        }
-        lines.push(number);
-        at = end;
-        if !line[at..].starts_with(',') {
-            break;
-        }
-        at += 1;
-    }
+    let begin = after(line, package.len(), " ", "a blank")?;
+    let (lines, at) = numbers_at(line, begin)?;
     let names_prerelease = match &line[at..] {
         "" => false,
         " pre" => true,
@@ -92,6 +88,22 @@ pub fn conflict(line: &str) -> Result<ConflictParts<'_>, Misfit> {
         lines,
         names_prerelease,
     })
+}
+
+/// The numbers at a place, which rise from 1 with commas between them, and where they end.
+fn numbers_at(text: &str, begin: usize) -> Result<(Vec<usize>, usize), Misfit> {
+    let (mut numbers, mut at) = (Vec::new(), begin);
+    loop {
+        let (number, end) = number_at(text, at)?;
+        if numbers.last().map_or(false, |last| *last >= number) {
+            return misfit(at, "a number after the one before it");
+        }
+        numbers.push(number);
+        if !text[end..].starts_with(',') {
+            return Ok((numbers, end));
+        }
+        at = end + 1;
+    }
 }
 
 /// What `same` prints, without the last line feed: `None` for `yes`, and otherwise the package and the place
@@ -109,6 +121,32 @@ pub fn same(text: &str) -> Result<Option<(&str, &str)>, Misfit> {
         None => Ok(Some((package, place))),
         Some(at) => misfit(begin + at, "the end"),
     }
+}
+
+/// What `covers` prints, without the last line feed: `None` for `yes`, and otherwise the package that isn't
+/// covered, the place, and the numbers of lines, after a line `no`.
+pub fn covers(text: &str) -> Result<Option<UncoveredParts<'_>>, Misfit> {
+    if text == "yes" {
+        return Ok(None);
+    }
+    let begin = after(text, 0, "no\n", "`yes` or `no`")?;
+    let package = name_at(text, begin)?;
+    let begin = after(text, begin + package.len(), "\n", "a line feed")?;
+    let length = text[begin..].find('\n').unwrap_or(text.len() - begin);
+    let place = &text[begin..begin + length];
+    if place.is_empty() {
+        return misfit(begin, "a marker or `all environments`");
+    }
+    let at = after(text, begin + length, "\n", "a line feed")?;
+    let (lines, end) = numbers_at(text, at)?;
+    if end < text.len() {
+        return misfit(end, "`,` or the end");
+    }
+    Ok(Some(UncoveredParts {
+        package,
+        place,
+        lines,
+    }))
 }
 
 /// The lines of an answer, without their line feeds. `None` if the last one has no line feed.

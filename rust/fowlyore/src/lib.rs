@@ -29,7 +29,7 @@
 //! is_shared::<fowlyore::VersionSpecifiers>();
 //! is_shared::<fowlyore::Requirement>();
 //! is_shared::<fowlyore::MarkerTree>();
-//! is_shared::<(fowlyore::Refused, fowlyore::Row, fowlyore::Conflict, fowlyore::Same)>();
+//! is_shared::<(fowlyore::Refused, fowlyore::Row, fowlyore::Conflict, fowlyore::Same, fowlyore::Covers)>();
 //! ```
 #![warn(missing_docs)]
 
@@ -48,11 +48,11 @@ mod requirement;
 mod specifiers;
 mod version;
 
-pub use answers::{Conflict, Outcome, Row, Same};
+pub use answers::{Conflict, Covers, Outcome, Row, Same};
 pub use bounds::{Bounded, Bounds};
 pub use lists::{
-    check, check_json, check_text, conflicts, conflicts_json, conflicts_text, matrix, matrix_json,
-    matrix_text, normal, normal_json, same, same_json, LIMIT,
+    check, check_json, check_text, conflicts, conflicts_json, conflicts_text, covers, covers_json,
+    matrix, matrix_json, matrix_text, normal, normal_json, same, same_json, LIMIT,
 };
 pub use marker::MarkerTree;
 pub use refused::Refused;

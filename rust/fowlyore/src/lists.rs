@@ -2,7 +2,7 @@
 
 use crate::elements::elements;
 use crate::native::{self, Format};
-use crate::{grammar, Bounds, Conflict, Refused, Row, Same};
+use crate::{grammar, Bounds, Conflict, Covers, Refused, Row, Same};
 
 /// The default limit on the cases of a package.
 pub const LIMIT: u64 = 4096;
@@ -219,6 +219,50 @@ pub fn same_json(left: &[u8], right: &[u8], limit: u64) -> Result<String, Refuse
     Bounds::default().same_json(left, right, limit)
 }
 
+/// Whether a lock requires whatever requirements do, whatever the truth of their markers is: each package, with
+/// at least their extras, and only points of versions that all their ranges have. What the lock alone requires
+/// makes no difference, and neither does whether a specifier names a pre-release.
+///
+/// ```
+/// use fowlyore::{covers, Covers, LIMIT};
+///
+/// assert_eq!(covers(b"foo[a,b]==1.2\nbar==1\n", b"foo[b]>=1\n", LIMIT)?, Covers::Yes);
+/// let marker = Some("os_name != 'nt'".into());
+/// let no = Covers::No { package: "foo".into(), marker, lines: vec![1] };
+/// assert_eq!(covers(b"foo==1.2 ; os_name == 'nt'\n", b"foo>=1\n", LIMIT)?, no);
+/// # Ok::<(), fowlyore::Refused>(())
+/// ```
+///
+/// # Errors
+///
+/// `Refused` for an invalid list, then for the first line that can't be compared, as one with a URL or with
+/// `===`, and then for the first package by name with more cases than `limit`, of the lock first; and beyond
+/// [`Bounds::default`].
+pub fn covers(lock: &[u8], requirements: &[u8], limit: u64) -> Result<Covers, Refused> {
+    Bounds::default().covers(lock, requirements, limit)
+}
+
+/// The answer of [`covers`] as the JSON that `reqs covers --format json` prints: an object on one line. Its
+/// `covers` is true, or it is false and the object has the `package`, the `marker`, which is null if the place
+/// is everywhere, and the numbers of the `lines`.
+///
+/// ```
+/// use fowlyore::{covers_json, LIMIT};
+///
+/// assert_eq!(covers_json(b"foo==1.2\n", b"foo>=1\n", LIMIT)?, "{\"covers\":true}\n");
+/// let json = covers_json(b"foo==1.2\n", b"foo>=1\nbar ; os_name == 'nt'\n", LIMIT)?;
+/// let no = r#"{"covers":false,"lines":[2],"marker":"os_name == 'nt'","package":"bar"}"#;
+/// assert_eq!(json, format!("{no}\n"));
+/// # Ok::<(), fowlyore::Refused>(())
+/// ```
+///
+/// # Errors
+///
+/// As those of [`covers`].
+pub fn covers_json(lock: &[u8], requirements: &[u8], limit: u64) -> Result<String, Refused> {
+    Bounds::default().covers_json(lock, requirements, limit)
+}
+
 /// The cases of packages whose lines contradict each other: no plain version, one without a local part that
 /// is no post-release, is accepted by all of them. Other versions may be: the lines `torch==2.0+cu118` and
 /// `torch<=2.0` are a conflict, and both accept 2.0+cu118.
@@ -397,6 +441,49 @@ impl Bounds {
     /// As those of [`same`], beyond these bounds.
     pub fn same_json(self, left: &[u8], right: &[u8], limit: u64) -> Result<String, Refused> {
         native::same(left, right, limit, self, Format::Json).map(native::Answer::text)
+    }
+
+    /// The answer of [`covers`] within the bounds on nodes, of both lists together, on the clauses of the place
+    /// that isn't covered, and on the cases of either list.
+    ///
+    /// ```
+    /// use fowlyore::{Bounds, Covers, LIMIT};
+    ///
+    /// let few = Bounds { nodes: 1, ..Bounds::default() };
+    /// assert_eq!(few.covers(b"foo==1\n", b"foo ; os_name == 'nt'\n", LIMIT)?, Covers::Yes);
+    /// let list = b"foo\nbar ; os_name == 'nt' or extra == 'a'\n";
+    /// let refused = few.covers(b"foo\n", list, LIMIT).unwrap_err();
+    /// assert_eq!((refused.input, refused.line), (2, 2));
+    /// assert_eq!(refused.message, "requirements: line 2: more than 1 nodes");
+    /// assert!(refused.is_of_nodes());
+    /// # Ok::<(), fowlyore::Refused>(())
+    /// ```
+    ///
+    /// # Errors
+    ///
+    /// As those of [`covers`], beyond these bounds.
+    pub fn covers(self, lock: &[u8], requirements: &[u8], limit: u64) -> Result<Covers, Refused> {
+        let answer = native::covers(lock, requirements, limit, self, Format::Text)?;
+        if !answer.is_different {
+            return Ok(Covers::Yes);
+        }
+        let text = answer.text();
+        let printed = text.strip_suffix('\n').unwrap_or(&text);
+        Ok(printed.parse().expect("the library prints a place"))
+    }
+
+    /// The JSON of [`covers_json`] within these bounds.
+    ///
+    /// # Errors
+    ///
+    /// As those of [`covers`], beyond these bounds.
+    pub fn covers_json(
+        self,
+        lock: &[u8],
+        requirements: &[u8],
+        limit: u64,
+    ) -> Result<String, Refused> {
+        native::covers(lock, requirements, limit, self, Format::Json).map(native::Answer::text)
     }
 
     /// The answer of [`conflicts`] within the bounds on nodes and cases.

@@ -63,6 +63,10 @@ extern "C" {
         left: *const u8, left_len: usize, right: *const u8, right_len: usize,
         limit: u64, nodes: usize, clauses: usize, cases: u64, out: *mut u8, out_len: usize,
     ) -> Reply;
+    fn reqs_covers(
+        lock: *const u8, lock_len: usize, requirements: *const u8, requirements_len: usize,
+        limit: u64, nodes: usize, clauses: usize, cases: u64, out: *mut u8, out_len: usize,
+    ) -> Reply;
     fn reqs_conflicts(
         requirements: *const u8, requirements_len: usize, limit: u64, nodes: usize, cases: u64,
         out: *mut u8, out_len: usize,
@@ -83,6 +87,10 @@ extern "C" {
     ) -> Reply;
     fn reqs_same_json(
         left: *const u8, left_len: usize, right: *const u8, right_len: usize,
+        limit: u64, nodes: usize, clauses: usize, cases: u64, out: *mut u8, out_len: usize,
+    ) -> Reply;
+    fn reqs_covers_json(
+        lock: *const u8, lock_len: usize, requirements: *const u8, requirements_len: usize,
         limit: u64, nodes: usize, clauses: usize, cases: u64, out: *mut u8, out_len: usize,
     ) -> Reply;
     fn reqs_conflicts_json(
@@ -435,6 +443,26 @@ pub(crate) fn same(
     match format {
         Format::Text => asked!(reqs_same, ROOM, left, right; limit, nodes, clauses, cases),
         Format::Json => asked!(reqs_same_json, ROOM, left, right; limit, nodes, clauses, cases),
+    }
+}
+
+pub(crate) fn covers(
+    lock: &[u8],
+    requirements: &[u8],
+    limit: u64,
+    bounds: Bounds,
+    format: Format,
+) -> Result<Answer, Refused> {
+    let Bounds {
+        nodes,
+        clauses,
+        cases,
+    } = bounds;
+    match format {
+        Format::Text => asked!(reqs_covers, ROOM, lock, requirements; limit, nodes, clauses, cases),
+        Format::Json => {
+            asked!(reqs_covers_json, ROOM, lock, requirements; limit, nodes, clauses, cases)
+        }
     }
 }
 

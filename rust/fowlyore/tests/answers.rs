@@ -5,8 +5,9 @@ mod drawn;
 
 use drawn::{escaped, Draws};
 use fowlyore::{
-    check, check_json, check_text, conflicts, conflicts_json, conflicts_text, matrix, matrix_json,
-    matrix_text, normal, normal_json, same, same_json, Conflict, Outcome, Row, Same, LIMIT,
+    check, check_json, check_text, conflicts, conflicts_json, conflicts_text, covers, covers_json,
+    matrix, matrix_json, matrix_text, normal, normal_json, same, same_json, Conflict, Covers,
+    Outcome, Row, Same, LIMIT,
 };
 use std::fmt::Display;
 
@@ -187,6 +188,62 @@ fn conflicts_are_what_is_printed() {
         }
     }
     assert!(counts.iter().all(|it| *it > 50), "{counts:?}");
+}
+
+fn covers_object(covers: &Covers) -> String {
+    match covers {
+        Covers::Yes => r#"{"covers":true}"#.to_string(),
+        Covers::No {
+            package,
+            marker,
+            lines,
+        } => {
+            let lines = array(lines, usize::to_string);
+            let marker = marker.as_deref().map_or("null".to_string(), quoted);
+            let package = quoted(package);
+            format!(r#"{{"covers":false,"lines":{lines},"marker":{marker},"package":{package}}}"#)
+        }
+    }
+}
+
+/// A list covers itself in another order and with a package besides, and doesn't cover one that it lacks.
+#[test]
+fn what_is_not_covered_has_its_package_place_and_lines() {
+    let mut draws = Draws::of(45);
+    let mut counts = [0; 2];
+    for _ in 0..800 {
+        let lines = list(&mut draws, COMPARED);
+        let turned: String = lines.lines().rev().map(|it| format!("{it}\n")).collect();
+        let (place, wanted) =
+            draws.one(&[("", None), (" ; os_name == 'x'", Some("os_name == 'x'"))]);
+        let more = format!("zz{place}\n{turned}");
+        assert_eq!(
+            covers(more.as_bytes(), lines.as_bytes(), LIMIT),
+            Ok(Covers::Yes),
+            "{lines}"
+        );
+        let no = Covers::No {
+            package: "zz".into(),
+            marker: wanted.map(String::from),
+            lines: vec![1],
+        };
+        assert_eq!(
+            covers(lines.as_bytes(), more.as_bytes(), LIMIT),
+            Ok(no),
+            "{lines}"
+        );
+        let other = list(&mut draws, COMPARED);
+        let found = covers(lines.as_bytes(), other.as_bytes(), LIMIT).unwrap();
+        assert_eq!(
+            found.to_string().parse().as_ref(),
+            Ok(&found),
+            "{lines}, {other}"
+        );
+        let json = covers_json(lines.as_bytes(), other.as_bytes(), LIMIT).unwrap();
+        assert_eq!(json, covers_object(&found) + "\n", "{lines}, {other}");
+        counts[usize::from(found == Covers::Yes)] += 1;
+    }
+    assert!(counts.iter().all(|it| *it > 5), "{counts:?}");
 }
 
 /// A list requires the same in another order, and something else where a package is required besides.

@@ -182,8 +182,19 @@ fn made_lines_are_taken_apart() {
         let place = draws.one(&PLACES);
         let text = format!("no\n{package}\n{place}");
         assert_eq!(grammar::same(&text), Ok(Some((package, place))));
+        let lines = conflict(&mut draws).lines;
+        let numbers: Vec<String> = lines.iter().map(usize::to_string).collect();
+        let text = format!("{text}\n{}", numbers.join(","));
+        let made = grammar::UncoveredParts {
+            package,
+            place,
+            lines,
+        };
+        assert_eq!(grammar::covers(&text), Ok(Some(made)));
+        assert!(grammar::covers(&format!("{text},0")).is_err());
     }
     assert_eq!(grammar::same("yes"), Ok(None));
+    assert_eq!(grammar::covers("yes"), Ok(None));
 }
 
 #[test]

@@ -1,5 +1,5 @@
 use Rattle.std.proofs.Common.{◌≡◌, take}
-use Rattle.reqtable_compare.proofs.equal_lines.are_same.Given as goal
+use Rattle.pep440_identity.proofs.specifiers.are_identical_specifiers.Given as goal
 
 abbrev pub invariant-loop-place : goal.invariant-loop-place
 invariant-loop-place l = take l.place l.ours ≡ take l.place l.theirs
