@@ -338,6 +338,10 @@ run same "$top"/examples/lock/{before,after}.txt
 wants "examples/lock: a release that changed" 1 "$(cat "$top/examples/lock/expected_same.txt")$n" ""
 run same "$top"/examples/lock/{before,rewritten}.txt
 wants "examples/lock: the same by another tool" 0 "yes$n" ""
+run covers "$top"/examples/lock/{after,wanted}.txt
+wants "examples/lock: a release that is forbidden" 1 "$(cat "$top/examples/lock/expected_covers.txt")$n" ""
+run covers "$top"/examples/lock/{before,wanted}.txt
+wants "examples/lock: what is asked for" 0 "yes$n" ""
 run conflicts "$top/examples/apart/requirements.txt"
 wants "examples/apart: two lines that contradict each other" 0 \
     "$(cat "$top/examples/apart/expected_conflicts.txt")$n" ""
