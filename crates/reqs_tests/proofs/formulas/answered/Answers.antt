@@ -1,5 +1,0 @@
-use Rattle.std.proofs.Common.{rules, true}
-use Rattle.reqs_tests.proofs.formulas.answered.Goals as goal
-
-pub new-admission-requires-clause-lawful : goal.new-admission-requires-clause-lawful
-new-admission-requires-clause-lawful c = ((λ version named. true), λ version named answer is. search rules)

@@ -1,0 +1,5 @@
+use Rattle.std.proofs.Common.{rules, true}
+use Rattle.reqtable_tests.proofs.formulas.marked_answer.Goals as goal
+
+pub new-admission-requires-clause-lawful : goal.new-admission-requires-clause-lawful
+new-admission-requires-clause-lawful c = ((λ version named. true), λ version named answer is. search rules)
