@@ -96,14 +96,14 @@ fn compared_with(
     ended(alloc, ran, text, &SAME_NAMES, NO_EXTRAS)
 }
 
-/// Replies with what `reqs::covers` writes in this format, with at most `limit` cases for a package and within
-/// the bounds. Ends with `Ended::Different` for a lock that doesn't cover the requirements. Needs memory for
-/// copies of the lists, in addition to what the command needs.
+/// Replies with what `reqs::covers` writes in this format, with at most `limit` cases for a package and
+/// within the bounds. Ends with `Ended::Different` for a lock that doesn't cover the requirements. Needs
+/// memory for copies of the lists, in addition to what the command needs.
 ///
 /// # Errors
 ///
-/// Refuses what `reqs_lists::covers_within` does, as a line with a URL or with `===`, with its message as text
-/// and the place of what is wrong. Status 3 when memory runs out.
+/// Refuses what `reqs_lists::covers_within` does, as a line with a URL or with `===`, with its message as
+/// text and the place of what is wrong. Status 3 when memory runs out.
 pub fn covers(
     alloc: Global,
     lock: &[u8],

@@ -181,34 +181,17 @@ fn run_unbounded<S: Read + Drop, W: Write>(
 {
     match opened {
         Opened::Check {
-            requirements,
-            environment,
-            candidates,
-        } => check(
-            alloc,
-            requirements,
-            environment,
-            candidates,
-            extras,
-            vars,
-            format,
-            output,
-        ),
+            requirements: first,
+            environment: second,
+            candidates: third,
+        } => check(alloc, first, second, third, extras, vars, format, output),
         Opened::Matrix {
-            requirements,
-            environments,
-            candidates,
+            requirements: first,
+            environments: second,
+            candidates: third,
             limit,
         } => matrix(
-            alloc,
-            requirements,
-            environments,
-            candidates,
-            extras,
-            vars,
-            *limit,
-            format,
-            output,
+            alloc, first, second, third, extras, vars, *limit, format, output,
         ),
         Opened::Same { left, right, limit } => same(
             alloc, left, right, vars, *limit, format, output,

@@ -109,8 +109,8 @@ CoversOrRefuses limit most nodes lists (Err fault) =
 -- the marker of the first place that isn't covered, if there is one, has at most so many clauses
 abbrev pub HasFewUncovered : ℕ → Lists → Type 0
 HasFewUncovered most lists =
-    (name : List ℕ) (diagram : Diagram Question) (numbers : List ℕ) → IsToldUncovered lists name diagram numbers
-    → clause_count diagram ≤ most
+    (name : List ℕ) (diagram : Diagram Question) (numbers : List ℕ) →
+    IsToldUncovered lists name diagram numbers → clause_count diagram ≤ most
 
 -- the answer on such lists
 abbrev pub IsFewCovers : Format → ℕ → ℕ → Lists → Status → List ℕ → Type 0

@@ -134,7 +134,8 @@ fn covers_answer(
         (IsFewCovers format limit bounds.clauses) (CantBeWithin limit bounds.cases)
         (two_lists vars.now (left.old.items ∷ right.old.items ∷ [])))
         (length interner.new.nodes ≤ bounds.nodes)
-        (CoversPasses bounds interner.new.nodes limit vars.now (left.old.items ∷ right.old.items ∷ [])) result }
+        (CoversPasses bounds interner.new.nodes limit vars.now (left.old.items ∷ right.old.items ∷ []))
+        result }
 {
     let most = bounds.nodes;
     let left = requirements_within(alloc, Input::First, left, interner, vars, most)?;

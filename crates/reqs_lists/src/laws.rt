@@ -32,8 +32,8 @@ pub fn both_formats_of_same_say_the_same()
         × (text ≡ difference_text name diagram) × (object ≡ line_of (difference_value name diagram))))) }
 {}
 
-/// `covers` writes the same answer on two lists in both formats, and ends with the same status: that the first
-/// covers the second, or the same package, marker and lines of the first place where it doesn't.
+/// `covers` writes the same answer on two lists in both formats, and ends with the same status: that the
+/// first covers the second, or the same package, marker and lines of the first place where it doesn't.
 pub fn both_formats_of_covers_say_the_same()
     ensures { (limit : ℕ) (vars : Variables) (inputs : List (List ℕ)) (ended other : Status)
         (text object : List ℕ) → CoversAnswersAs Text limit vars inputs ended text →

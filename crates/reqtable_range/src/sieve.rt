@@ -19,8 +19,8 @@ pub struct Sieve {
 }
 
 impl Sieve {
-    /// Whether one of the ranges doesn't contain the version, so that one of the lists rejects it if it can be
-    /// written. `false` leaves open whether one does.
+    /// Whether one of the ranges doesn't contain the version, so that one of the lists rejects it if it can
+    /// be written. `false` leaves open whether one does.
     ///
     /// With n specifiers in the ranges that are O(log n) comparisons of versions. Needs memory for a copy of
     /// a version with a local part.
