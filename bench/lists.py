@@ -1,17 +1,17 @@
 #!/usr/bin/env python3
-"""Measures `reqs same`, `reqs conflicts` and `reqs normal` beside the reading of a list.
+"""Measures `reqs same`, `reqs covers`, `reqs conflicts` and `reqs normal` beside the reading of a list.
 
     lists.py [PROGRAM] [--full] [--sizes N,..] [--runs N] [--seed N] [--folder FOLDER] [--write]
 
 PROGRAM is crates/reqs_cli/out/reqs_cli where none is named. A workload of workload.py, without the lines that have a URL
 or are refused, is asked for: `same` of the list and itself in another order, and of the list and one that differs in its
-last package; `conflicts`; and `normal`. Beside them stands `check` with no candidates, which reads the list and gives each
-package a row. Then come single packages of 4,096 cases: `same` beside itself in another order, and beside one whose last
-pair of cases differs.
+last package; `covers` of the latter and the list, and turned round, which lacks that package; `conflicts`; and `normal`.
+Beside them stands `check` with no candidates, which reads the list and gives each package a row. Then come single packages
+of 4,096 cases: `same` and `covers` beside itself in another order, and beside one whose last pair of cases differs.
 
 Times are processor seconds of whole processes, the least of several runs; memory is the greatest of one. The exit status is
-1 where an answer is another than it has to be, or where `same` of 10,000 lines takes more than three times as long as
-reading them twice, or a package of 4,096 cases more than a second. With `--write` what was measured goes to
+1 where an answer is another than it has to be, or where `same` or `covers` of 10,000 lines takes more than three times as
+long as reading them twice, or a package of 4,096 cases more than a second. With `--write` what was measured goes to
 bench/figures.json, if that is 0.
 """
 
@@ -36,8 +36,8 @@ FLAGS = "abcdefghijkl"
 # What `same` refuses in the lines of a workload: URLs, and a post-release behind `<` or `>`.
 REFUSED = re.compile(r" @ |(?<![=!~<>])[<>](?!=)[^,;]*post")
 EVERYWHERE = "all environments"
-COMMANDS = {"reading": "reading, as `check`", "alike": "`same`, alike", "differing": "`same`, differing", "conflicts": "`conflicts`",
-            "normal": "`normal`"}
+COMMANDS = {"reading": "reading, as `check`", "alike": "`same`, alike", "differing": "`same`, differing",
+            "covered": "`covers`, yes", "uncovered": "`covers`, no", "conflicts": "`conflicts`", "normal": "`normal`"}
 
 
 def compared_lines(lines, seed, full):
@@ -73,7 +73,7 @@ class Measured:
             print(f"  wrong: {' '.join(command)}: {(told or found)[:200]}")
             self.failed = True
         least = min(self.run(words) for _ in range(self.words.runs))
-        # (the status of `same` may be 1)
+        # (the status of `same` and `covers` may be 1)
         return least, peak(["/bin/sh", "-c", '"$@" || true', "sh", *words]) / 1024
 
     @staticmethod
@@ -102,16 +102,17 @@ def many_packages(words, folder, size):
     write(folder, "C", "")
     it = Measured(words, folder)
     times = [it.seconds(None, "check", "LIST", "E", "C"), it.seconds("yes\n", "same", "LIST", "TURNED"),
-             it.seconds(f"no\nzzz-last\n{EVERYWHERE}\n", "same", "LIST", "OTHER"), it.seconds(None, "conflicts", "LIST"),
-             it.seconds(None, "normal", "LIST")]
+             it.seconds(f"no\nzzz-last\n{EVERYWHERE}\n", "same", "LIST", "OTHER"), it.seconds("yes\n", "covers", "OTHER", "LIST"),
+             it.seconds(f"no\nzzz-last\n{EVERYWHERE}\n{len(lines) + 1}\n", "covers", "LIST", "OTHER"),
+             it.seconds(None, "conflicts", "LIST"), it.seconds(None, "normal", "LIST")]
     print(f"| {size:,} | " + " | ".join(f"{seconds:.3f} | {mib:.0f}" for seconds, mib in times) + " |", flush=True)
     words.found[size] = dict(zip(COMMANDS, times))
     if size == 10000:
-        print_aims(*(seconds for seconds, _ in times[:4]))
-    slow = size == 10000 and times[1][0] > 6 * times[0][0]
-    if slow:
-        print("  missed: same takes more than three times as long as reading both lists")
-    return it.failed or slow
+        print_aims(*(words.found[size][name][0] for name in ("reading", "alike", "differing", "conflicts")))
+    slow = [name for name in ("alike", "covered", "uncovered") if size == 10000 and words.found[size][name][0] > 6 * times[0][0]]
+    for name in slow:
+        print(f"  missed: {COMMANDS[name]} takes more than three times as long as reading both lists")
+    return it.failed or bool(slow)
 
 
 def one_package(words, folder):
@@ -122,10 +123,13 @@ def one_package(words, folder):
     write(folder, "OTHER", text_of([*lines, "foo!=99.0 ; " + " and ".join(f"'{it}' not in platform_version" for it in FLAGS)]))
     it = Measured(words, folder)
     where = " and ".join(f"'{letter}' not in platform_version" for letter in FLAGS)
-    alike, differing = it.seconds("yes\n", "same", "LIST", "TURNED"), it.seconds(f"no\nfoo\n{where}\n", "same", "LIST", "OTHER")
-    words.found["cases"] = {"alike": alike, "differing": differing}
-    print(f"4,096 cases: alike {alike[0]:.3f} s, {alike[1]:.0f} MiB; in the last pair {differing[0]:.3f} s, {differing[1]:.0f} MiB")
-    slow = max(alike[0], differing[0]) > 1
+    found = {"alike": it.seconds("yes\n", "same", "LIST", "TURNED"),
+             "differing": it.seconds(f"no\nfoo\n{where}\n", "same", "LIST", "OTHER"),
+             "covered": it.seconds("yes\n", "covers", "LIST", "TURNED"),
+             "uncovered": it.seconds(f"no\nfoo\n{where}\n{len(FLAGS) + 1}\n", "covers", "LIST", "OTHER")}
+    words.found["cases"] = found
+    print("4,096 cases: " + "; ".join(f"{COMMANDS[name]} {seconds:.3f} s, {mib:.0f} MiB" for name, (seconds, mib) in found.items()))
+    slow = max(seconds for seconds, _ in found.values()) > 1
     if slow:
         print("  missed: 4,096 cases take more than a second")
     return it.failed or slow
