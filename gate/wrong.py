@@ -46,6 +46,8 @@ from store import Store
 MOST_TOGETHER = 20
 # What an edit takes in its check, about.
 SECONDS_AN_EDIT = 15
+# What a check takes at least, in bytes, and for a line of the crates below: the highest crates' take 5 to 7 GB.
+MEMORY, MEMORY_A_LINE_BELOW = 2_000_000_000, 30_000
 # What rattle says of a proof file that names what an edit took away, and of what rests on a refused part.
 LOST = re.compile(r"has no field|is not in scope|has no `|was not admitted|\(nearest: |were not checked")
 TOLD = re.compile(r"^fn (\S+): (proved|not proved.*|no proof.*)$", re.M)
@@ -288,9 +290,13 @@ class Trial:
                 # (of many edits most are of functions that stand on little)
                 seconds = SECONDS + self.prover.loading(crate.name) + SECONDS_AN_EDIT * min(count, 4) + 3 * max(count - 4, 0)
                 call = lambda _given, _jobs, check=check: self.run_check(*check)
-                made[crate.name, "edits", len(made)] = Task(waits_of(crate), seconds, crate.memory(), call, most_jobs=1)
+                made[crate.name, "edits", len(made)] = Task(waits_of(crate), seconds, self.memory(crate), call, most_jobs=1)
         self.checks, self.tried = len(made), len(edits)
         return made
+
+    def memory(self, crate):
+        """What a check of edits takes, in bytes: high up most of it is for the libraries below."""
+        return max(crate.memory(), MEMORY + MEMORY_A_LINE_BELOW * sum(it.lines() for it in self.prover.crates.below(crate.name)))
 
     def left_of(self, edits):
         """Those edits that are to be tried: they fit, and the store has no verdict of them."""

@@ -3,9 +3,10 @@
 
     once.py
 
-All lines have one marker, or it and its negation: once a short one, once a long one. What ten environments more cost is then
-about the same, since the long one is evaluated ten times and not once for each line. Instructions are counted by valgrind,
-which is Debian's package `valgrind`; the answers are compared without it too. The last line is `once: N passed, M failed`.
+All lines have one marker, or it and its negation: once a short one, once a long one. What a hundred environments more cost
+is then about the same, since the long one is evaluated a hundred times and not once for each line. Instructions are counted
+by valgrind, which is Debian's package `valgrind`; the answers are compared without it too. The last line is
+`once: N passed, M failed`.
 """
 
 import json
@@ -19,8 +20,8 @@ import tempfile
 from rows import USUAL
 
 PROGRAM = os.path.join(os.path.dirname(os.path.abspath(__file__)), "..", "crates", "reqs_cli", "out", "reqs_cli")
-LINES, FEW, MANY, COMPARISONS = 200, 1, 11, 60
-# How many times as much ten environments may cost with the long marker.
+LINES, FEW, MANY, COMPARISONS = 200, 1, 101, 60
+# How many times as much these environments may cost with the long marker.
 MOST = 1.5
 COLLECTED = re.compile(r"Collected : (\d+)")
 # The environment's system has none of these letters.
