@@ -374,23 +374,29 @@ def played(task):
     return counted(checks, said, over), fault
 
 
-def play(words):
-    """Plays all rounds, and returns how many passed and failed."""
+def all_played(words, play_one):
+    """Plays all rounds side by side, and prints the first that fail. Returns what was seen in all, and how many failed."""
     sums, faults = Counter(), []
     tasks = ((words.program, words.seed, number, None) for number in range(words.count))
     with multiprocessing.Pool(len(os.sched_getaffinity(0))) as pool:
-        for found, fault in pool.imap(played, tasks, chunksize=8):
-            sums += found
+        for seen, fault in pool.imap(play_one, tasks, chunksize=8):
+            sums += seen
             if fault:
                 faults.append(fault)
     for it in faults[:5]:
         print(f"FAILED: {it[:1000]}")
+    return sums, len(faults)
+
+
+def play(words):
+    """Plays all rounds, and returns how many passed and failed."""
+    sums, failed = all_played(words, played)
     rounds, rows = (", ".join(f"{sums[it]} {it}" for it in kinds) for kinds in (ROUNDS, ROWS))
     print(f"alike: seed {words.seed}: {words.count} rounds ({rounds}), {sums['environments']} environments; rows: {rows}")
     lacking = [it for it in (*ROWS, *ROUNDS) if not sums[it]]
     for it in lacking:
         print(f"FAILED: not one was {it}")
-    return words.count - len(faults), len(faults) + len(lacking)
+    return words.count - failed, failed + len(lacking)
 
 
 def command(text, name, play_one, play_many, well):

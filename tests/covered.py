@@ -19,7 +19,6 @@ a round each. It fails too where no round or each was covered, or where no place
 
 import itertools
 import json
-import multiprocessing
 import os
 import shutil
 import subprocess
@@ -196,20 +195,12 @@ WANTED = ("covered", "everywhere", "elsewhere")
 
 def play_all(words):
     """Plays all rounds, and returns how many passed and failed."""
-    sums, faults = Counter(), []
-    tasks = ((words.program, words.seed, number, None) for number in range(words.count))
-    with multiprocessing.Pool(len(os.sched_getaffinity(0))) as pool:
-        for seen, fault in pool.imap(played, tasks, chunksize=8):
-            sums += seen
-            if fault:
-                faults.append(fault)
-    for it in faults[:5]:
-        print(f"FAILED: {it[:1000]}")
+    sums, failed = alike.all_played(words, played)
     print(f"covered: seed {words.seed}: {words.count} rounds: {', '.join(f'{sums[it]} {it}' for it in WANTED)}")
     lacking = [f"not one was {it}" for it in WANTED if not sums[it]]
     for it in lacking:
         print(f"FAILED: {it}")
-    return words.count - len(faults), len(faults) + len(lacking)
+    return words.count - failed, failed + len(lacking)
 
 
 if __name__ == "__main__":

@@ -24,7 +24,6 @@ each had a normal text, or where most differences had no environment.
 import itertools
 import itertools
 import json
-import multiprocessing
 import os
 import re
 import shutil
@@ -388,15 +387,7 @@ WANTED = ("normal texts", "without a normal text", "differences in some environm
 
 def play_all(words):
     """Plays all rounds, and returns how many passed and failed."""
-    sums, faults = Counter(), []
-    tasks = ((words.program, words.seed, number, None) for number in range(words.count))
-    with multiprocessing.Pool(len(os.sched_getaffinity(0))) as pool:
-        for seen, fault in pool.imap(played, tasks, chunksize=8):
-            sums += seen
-            if fault:
-                faults.append(fault)
-    for it in faults[:5]:
-        print(f"FAILED: {it[:1000]}")
+    sums, failed = alike.all_played(words, played)
     edits = [it.__name__ for it in (*KEEPING, *CHANGING)]
     told = ", ".join(f"{sums[it]} {it.replace('_', ' ')}" for it in (*edits, *WANTED))
     print(f"pairs: seed {words.seed}: {words.count} rounds: {told}")
@@ -405,7 +396,7 @@ def play_all(words):
         lacking.append("too few differences had an environment")
     for it in lacking:
         print(f"FAILED: {it}")
-    return words.count - len(faults), len(faults) + len(lacking)
+    return words.count - failed, failed + len(lacking)
 
 
 if __name__ == "__main__":
