@@ -361,21 +361,21 @@ def run_matrix(words: argparse.Namespace) -> int:
     return STRICT if words.strict and any(it.is_none for rows in answers for it in rows) else ANSWERED
 
 
+def two_listings(one: str, other: str, groups: List[str]) -> List[Listing]:
+    """Two lists; the groups are those of the projects and lock files among them."""
+    with_groups = [it for it in (one, other) if has_groups(it)] or [one, other]
+    return [tell_assumed(listing(it, groups if it in with_groups else [])) for it in (one, other)]
+
+
 def run_same(words: argparse.Namespace) -> int:
-    both = (words.left, words.right)
-    # (groups are those of the projects and lock files among the two)
-    with_groups = [it for it in both if has_groups(it)] or both
-    left, right = (tell_assumed(listing(it, words.group if it in with_groups else [])) for it in both)
+    left, right = two_listings(words.left, words.right, words.group)
     answer = same(left, right, words.limit)
     show(answer)
     return ANSWERED if answer else DIFFERENT
 
 
 def run_covers(words: argparse.Namespace) -> int:
-    both = (words.lock, words.requirements)
-    # (groups are those of the projects and lock files among the two)
-    with_groups = [it for it in both if has_groups(it)] or both
-    lock, requirements = (tell_assumed(listing(it, words.group if it in with_groups else [])) for it in both)
+    lock, requirements = two_listings(words.lock, words.requirements, words.group)
     answer = covers(lock, requirements, words.limit)
     show(answer)
     return ANSWERED if answer else DIFFERENT
