@@ -8,7 +8,8 @@ use Rattle.reqs_io_faults.specs.declared.bounds.Bounds.{Bounds}
 use Rattle.reqs_json.specs.declared.format.Format.{Format}
 use Rattle.reqs_json.specs.declared.format.Format.TheVariants.{Text, Json}
 use Rattle.reqs_command.specs.declared.request.Asked.{Asked}
-use Rattle.reqs_command.specs.declared.request.Asked.TheVariants.{Check, Matrix, Same, Covers, Conflicts, Normal}
+use Rattle.reqs_command.specs.declared.request.Asked.TheVariants.{Check, Matrix, Same, Covers}
+use Rattle.reqs_command.specs.declared.request.Asked.TheVariants.{Conflicts, Normal}
 
 -- the word that names a command
 abbrev pub name_of : Asked → List ℕ

@@ -23,7 +23,8 @@ use Rattle.reqs_lists.specs.Covered.{CoversAnswersAs, CoversAnswersWithin, Cover
 use Rattle.reqs_lists.specs.Normal.{NormalAnswersAs, NormalAnswersWithin, NormalRefuses, NormalRefusesWithin}
 use Rattle.reqs_lists.specs.Normal.{NormalPasses}
 use Rattle.reqs_command.specs.declared.request.Asked.{Asked}
-use Rattle.reqs_command.specs.declared.request.Asked.TheVariants.{Check, Matrix, Same, Covers, Conflicts, Normal}
+use Rattle.reqs_command.specs.declared.request.Asked.TheVariants.{Check, Matrix, Same, Covers}
+use Rattle.reqs_command.specs.declared.request.Asked.TheVariants.{Conflicts, Normal}
 use Rattle.reqs_command.specs.declared.opened.Opened.{Opened}
 use Rattle.reqs_command.specs.declared.opened.Opened.TheVariants as opened
 
