@@ -109,7 +109,8 @@ reqs_reply reqs_same(const uint8_t *left, size_t left_len,
                      uint8_t *out, size_t out_len);
 
 /* REQS_ANSWERED and "yes\n" if a lock requires whatever the requirements do: each package, at least with the
- * same extras, and only versions of their ranges; otherwise REQS_DIFFERENT and what `reqs covers` writes. */
+ * same extras, and no points of versions outside their ranges; otherwise REQS_DIFFERENT and what `reqs covers`
+ * writes. Of versions with a local part that may differ: torch==2.0+cu118 doesn't cover torch==2.0. */
 reqs_reply reqs_covers(const uint8_t *lock, size_t lock_len,
                        const uint8_t *requirements, size_t requirements_len,
                        uint64_t limit, size_t nodes, size_t clauses, uint64_t cases,

@@ -133,16 +133,15 @@ class Row:
 
 
 @dataclass(frozen=True)
-class Comparison:
-    """Whether two lists require the same everywhere, in which case it is true; otherwise `package` is the
-    first package that differs, and `place` says where: a marker's text, or `all environments`."""
+class _Relation:
+    """Whether two lists are related as is asked, in which case it is true, and otherwise the first package and place where not."""
 
     package: Optional[str] = None
     place: Optional[str] = None
 
     @property
     def marker(self) -> Optional[str]:
-        """The marker of the first difference. None if it is in all environments, or if there is none."""
+        """The marker of the first place where the answer is no. None if that is everywhere, or if the answer is yes."""
         return None if self.place == _EVERYWHERE else self.place
 
     def __bool__(self) -> bool:
@@ -153,27 +152,23 @@ class Comparison:
 
 
 @dataclass(frozen=True)
-class Covering:
+class Comparison(_Relation):
+    """Whether two lists require the same everywhere, in which case it is true; otherwise `package` is the
+    first package that differs, and `place` says where: a marker's text, or `all environments`."""
+
+
+@dataclass(frozen=True)
+class Covering(_Relation):
     """Whether a lock requires whatever requirements do, in which case it is true; otherwise `package` is the
     first package that it doesn't cover, `place` says where: a marker's text, or `all environments`, and `lines`
     are the numbers of the requirements' lines that apply there. For requirements that `read` has read, and that
     aren't plain, the numbers count the lines that ask for something, and `places` is where these stand."""
 
-    package: Optional[str] = None
-    place: Optional[str] = None
     lines: Tuple[int, ...] = ()
     places: Tuple[str, ...] = field(default=(), repr=False)
 
-    @property
-    def marker(self) -> Optional[str]:
-        """The marker of the first place that isn't covered. None if it is in all environments, or if there is none."""
-        return None if self.place == _EVERYWHERE else self.place
-
-    def __bool__(self) -> bool:
-        return self.package is None
-
     def __str__(self) -> str:
-        return "yes" if self else f"no\n{self.package}\n{self.place}\n{','.join(self.places or map(str, self.lines))}"
+        return "yes" if self else f"{super().__str__()}\n{','.join(self.places or map(str, self.lines))}"
 
 
 @dataclass(frozen=True)
@@ -646,10 +641,10 @@ def covers(
     first doesn't, and by which lines of the requirements.
 
     It has to require each package that they require, with at least their extras, and only points of versions that all
-    their ranges have. What it requires besides makes no difference, and neither does whether a specifier names a
-    pre-release. Lists that require the same, as `same` says, cover each other. Raises `InvalidInput` for what `same`
-    refuses: a list that is refused, the first line that can't be compared, as one with a URL or with `===`, and a
-    package with more cases than `limit`.
+    their ranges have: `torch==2.0+cu118` doesn't cover `torch==2.0`, whose range has no point with a local part. What it
+    requires besides makes no difference, and neither does whether a specifier names a pre-release. Lists that require
+    the same, as `same` says, cover each other. Raises `InvalidInput` for what `same` refuses: a list that is refused, the
+    first line that can't be compared, as one with a URL or with `===`, and a package with more cases than `limit`.
 
     `nodes`, `clauses` and `cases` are bounds as those of `same`.
 

@@ -220,8 +220,9 @@ pub fn same_json(left: &[u8], right: &[u8], limit: u64) -> Result<String, Refuse
 }
 
 /// Whether a lock requires whatever requirements do, whatever the truth of their markers is: each package, with
-/// at least their extras, and only points of versions that all their ranges have. What the lock alone requires
-/// makes no difference, and neither does whether a specifier names a pre-release.
+/// at least their extras, and only points of versions that all their ranges have: `torch==2.0+cu118` doesn't
+/// cover `torch==2.0`, whose range has no point with a local part. What the lock alone requires makes no
+/// difference, and neither does whether a specifier names a pre-release.
 ///
 /// ```
 /// use fowlyore::{covers, Covers, LIMIT};
