@@ -10,8 +10,8 @@
 //! ```
 
 mod admitting;
-mod answering;
 mod checks;
+mod environments;
 mod frames;
 pub mod laws;
 mod matrices;

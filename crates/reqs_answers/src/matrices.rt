@@ -20,7 +20,7 @@ ghost use Rattle.reqs_answers.specs.Matrix.{IsRead, PassesIn};
 ghost use Rattle.reqs_answers.specs.Matrix.{OutgrowsOrOver, unbuilt, RunsMatrixWithin};
 ghost use Rattle.reqs_answers.specs.Texts.{behind_lines, texts_of};
 
-use crate::answering::answers_text;
+use crate::environments::answers_text;
 use pep508_name::ExtraName;
 use pep508_tree::Interner;
 use pep508_url::Vars;

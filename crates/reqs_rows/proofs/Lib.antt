@@ -1,3 +1,4 @@
 pub mod Places
 pub mod Putting
 pub mod Going
+pub mod Ready

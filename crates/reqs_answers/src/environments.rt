@@ -11,7 +11,7 @@ ghost use Rattle.reqtable_table.specs.Cases.{HasItsCases};
 ghost use Rattle.reqtable_table.specs.Kept.{KeepsAll};
 ghost use Rattle.reqs_answers.specs.Check.{on_request};
 ghost use Rattle.reqs_answers.specs.Matrix.{IsMatrixIn};
-ghost use Rattle.reqs_answers.specs.Ready.{nodes_in, IsReady, PutsEnvironment};
+ghost use Rattle.reqs_answers.specs.Ready.{nodes_in, IsReadyOnRequest, PutsEnvironment};
 
 use crate::admitting::is_admitted;
 use crate::frames::{put_closing, put_foot, put_head, put_opening};
@@ -19,21 +19,11 @@ use pep440_version::Version;
 use pep508_environment::MarkerEnvironment;
 use reqs_json::Format;
 use reqs_pieces::Pieces;
-use reqs_rows::{Query, RowTexts, text_for};
+use reqs_rows::{Answering, Query};
 use reqtable_answer::Admission;
+use reqtable_table::Table;
 use reqtable_table::lent::package_count;
-use reqtable_table::{Runs, Table};
 use std::alloc::{AllocError, Global};
-
-/// What answering changes: the table, the candidates of its packages with the outcomes decided so far, the
-/// rows that have a text, and the text of the answers.
-#[derive(Drop)]
-pub(crate) struct Answering<'o, 'a> {
-    pub(crate) table: Table,
-    pub(crate) runs: Runs<'o, 'a>,
-    pub(crate) rows: RowTexts,
-    pub(crate) text: Pieces,
-}
 
 /// The answers of a table for all environments.
 pub(crate) fn answers_text(
@@ -50,14 +40,7 @@ pub(crate) fn answers_text(
     let ordered = query.candidates.in_order(alloc)?;
     let runs = table.runs(alloc, &ordered)?;
     let room = room_for(query.format, package_count(&table), environments.len());
-    let text = text_for(alloc, room)?;
-    let rows = RowTexts::new(alloc);
-    let mut run = Answering {
-        table,
-        runs,
-        rows,
-        text,
-    };
+    let mut run = Answering::new(alloc, table, runs, room)?;
     let admission = Admission::new(|version, named| is_admitted(version, named));
     put_answers(alloc, &mut run, query, environments, &admission)?;
     Ok(run.text)
@@ -83,7 +66,8 @@ fn put_answers<F: Fn(&Version, bool) -> bool>(
     environments: &[MarkerEnvironment],
     admission: &Admission<F>,
 ) -> Result<(), AllocError>
-    requires ready { IsReady (F.IsAlwaysCallable admission.now) (F.post admission.now) query.now run.old }
+    requires ready { IsReadyOnRequest (F.IsAlwaysCallable admission.now) (F.post admission.now)
+        query.now run.old }
     requires empty { run.old.text.whole ≡ [] }
     ensures { OnOk result ((said : List LineRecord) → KeepsAll (nodes_in query.now) run.old.table said →
         IsMatrixIn query.now.format on_request query.now.extras.now said query.now.candidates.now
@@ -105,22 +89,14 @@ fn put_environment<F: Fn(&Version, bool) -> bool>(
     number: usize,
     admission: &Admission<F>,
 ) -> Result<(), AllocError>
-    requires { IsReady (F.IsAlwaysCallable admission.now) (F.post admission.now) query.now run.old }
+    requires { IsReadyOnRequest (F.IsAlwaysCallable admission.now) (F.post admission.now) query.now run.old }
     ensures ready { OnOk result
-        (IsReady (F.IsAlwaysCallable admission.now) (F.post admission.now) query.now run.new) }
+        (IsReadyOnRequest (F.IsAlwaysCallable admission.now) (F.post admission.now) query.now run.new) }
     ensures put { OnOk result ((said : List LineRecord) → KeepsAll (nodes_in query.now) run.old.table said →
         PutsEnvironment query.now environment.now number said run.old.text.whole run.new.text.whole) }
     ensures kept { OnOk result (AllZip SamePackage run.new.table run.old.table) }
 {
     put_head(alloc, query.format, &mut run.text, number)?;
-    run.rows.put_answer(
-        alloc,
-        &mut run.table,
-        query,
-        environment,
-        &mut run.runs,
-        admission,
-        &mut run.text,
-    )?;
+    run.put_answer(alloc, query, environment, admission)?;
     put_foot(alloc, query.format, &mut run.text)
 }

@@ -4,8 +4,8 @@ use Rattle.reqtable_table.proofs.Same.{all_same, packages_on, keeps}
 use Rattle.reqs_answers.specs.Ready.{nodes_in}
 use Rattle.reqs_answers.specs.Frames.{opening}
 use Rattle.reqs_answers.proofs.Framed.{begun, gone_on, closed}
-use Rattle.reqs_answers.proofs.Ready.{with_text}
-use Rattle.reqs_answers.proofs.answering.put_answers.Goals as goal
+use Rattle.reqs_rows.proofs.Ready.{with_text}
+use Rattle.reqs_answers.proofs.environments.put_answers.Goals as goal
 
 pub loop-place-init : goal.loop-place-init
 loop-place-init g c =
@@ -17,7 +17,11 @@ loop-place-init g c =
             begun query.format query.extras.now said query.candidates.now c.args.environments.now c.put_opening.new.text.whole
             (c.in_ok-put_opening.ensures.whole ∙ ap (λ t. t ++ opening query.format) c.requires.empty);
       };
-      ready = with_text _ _ query c.args.run.now c.put_opening.new.text c.in_ok-put_opening.ensures.grow c.requires.ready;
+      ready = record {
+        admits = c.requires.ready.admits;
+        ready = with_text _ _ query.format (nodes_in query) query.candidates.now c.args.run.now c.put_opening.new.text
+            c.in_ok-put_opening.ensures.grow c.requires.ready.ready;
+      };
     }
 
 pub loop-place-preserved : goal.loop-place-preserved
