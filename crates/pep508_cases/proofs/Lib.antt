@@ -4,7 +4,7 @@ pub mod Counting
 pub mod Keeping
 pub mod Marking
 pub mod SetTrees
-mod Gaps
+mod Runs
 pub mod Last
 pub mod Listing
 mod Meet

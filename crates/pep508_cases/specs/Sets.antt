@@ -1,14 +1,20 @@
--- Sets of trees by the gaps between their members.
-use Rattle.std.specs.Prelude.{ℕ, suc, ◌++◌, ◌∷◌, [], List, true, false, replicate, cond, nat_lt}
+-- Sets of trees by their runs.
+use Rattle.std.specs.Prelude.{ℕ, suc, ◌++◌, ◌&&◌, ◌∷◌, [], List, Bool, true, false, not, replicate}
+use Rattle.std.specs.Prelude.{cond}
 use Rattle.std.specs.declared.cmp.Ordering.{Ordering}
 use Rattle.std.specs.declared.cmp.Ordering.TheVariants.{Less, Greater}
 use Rattle.pep508_cases.specs.Cases.{Marks}
 
--- the marks of a set by how many trees stand before each member, behind the member before it, and how many
--- behind the last
-abbrev pub marks_by : List ℕ → ℕ → Marks
-marks_by [] rest = replicate rest false
-marks_by (gap ∷ gaps) rest = replicate gap false ++ true ∷ marks_by gaps rest
+-- the marks of a set by its runs, the first of which is of trees with this mark: each run is one longer than
+-- its number, and after each the other mark comes
+abbrev pub marks_by : Bool → List ℕ → Marks
+marks_by mark [] = []
+marks_by mark (run ∷ runs) = replicate (suc run) mark ++ marks_by (not mark) runs
+
+-- the mark of the run after some runs, the first of which has this mark
+abbrev pub mark_after : Bool → List ℕ → Bool
+mark_after mark [] = mark
+mark_after mark (run ∷ runs) = mark_after (not mark) runs
 
 -- the places of the marks that are set, counted from one on
 abbrev pub places_from : ℕ → Marks → List ℕ
@@ -19,7 +25,7 @@ places_from at (false ∷ marks) = places_from (suc at) marks
 abbrev pub places_of : Marks → List ℕ
 places_of = places_from 0
 
--- how a set whose next member stands behind so many trees compares with one that has only so many, none of
--- them a member
-abbrev pub end_cmp : ℕ → ℕ → Ordering
-end_cmp gap rest = cond (nat_lt gap rest) Less Greater
+-- how a set compares with another whose run of this mark goes on where its own has ended, by whether it has
+-- more trees
+abbrev pub ended_cmp : Bool → Bool → Ordering
+ended_cmp mark more = cond (mark && more) Greater Less

@@ -1,24 +1,27 @@
 //! Sets of trees, in the order of cases.
 //!
-//! A set is kept by its members alone, so that many sets of few trees each take little memory.
+//! A set is kept by its runs: sets of few trees, of almost all and of the first ones each have few runs, so
+//! they take little memory and are compared in a few steps. Lines for interpreters from some version on have
+//! sets of the first ones.
 
-ghost use Rattle.std.specs.Prelude.{◌≡◌, ◌≤◌, ◌+◌, ◌++◌, ◌∷◌, [], length, refl, IfOk, OnOk};
+ghost use Rattle.std.specs.Prelude.{◌≡◌, ◌≤◌, ◌==◌, ◌<◌, ◌+◌, ◌++◌, ◌∷◌, [], ℕ, Bool, true, not, length};
+ghost use Rattle.std.specs.Prelude.{replicate, refl, IfOk, OnOk};
 ghost use Rattle.std.specs.Cmp.{eq_by_cmp_equiv, partial_equiv_from_equiv, partial_order_from_agreeing_total};
 ghost use Rattle.std.specs.Ordering.{eq_by_cmp, as_partial_cmp};
 ghost use Rattle.pep508_cases.specs.Cases.{marks_cmp};
-ghost use Rattle.pep508_cases.specs.Sets.{marks_by, places_of, end_cmp};
+ghost use Rattle.pep508_cases.specs.Sets.{marks_by, mark_after, places_of, places_from, ended_cmp};
 ghost use Rattle.pep508_cases.specs.SetOrder.{marks_total};
 
 use std::alloc::{AllocError, Global};
 use std::cmp::Ordering;
 use std::marker::Model;
 
-/// A set of some trees: for each member the number of trees between it and the member before it, and the
-/// number of trees after the last.
+/// A set of some trees: whether it contains the first of them, and the lengths of its runs, which are trees
+/// that it contains and trees that it doesn't in turn. Each number is one less than the run's length.
 #[derive(Drop)]
 pub struct TreeSet {
-    gaps: Vec<usize>,
-    rest: usize,
+    first: bool,
+    runs: Vec<usize>,
 }
 
 impl Model for TreeSet {
@@ -27,7 +30,7 @@ impl Model for TreeSet {
 
     ghost Value = { Marks };
 
-    ghost view = { λ set. marks_by set.gaps.items set.rest };
+    ghost view = { λ set. marks_by set.first set.runs.items };
 }
 
 impl TreeSet {
@@ -36,8 +39,8 @@ impl TreeSet {
         ensures { result ≡ [] }
     {
         TreeSet {
-            gaps: Vec::new(alloc),
-            rest: 0,
+            first: false,
+            runs: Vec::new(alloc),
         }
     }
 
@@ -45,12 +48,9 @@ impl TreeSet {
     pub(crate) fn of_one(alloc: Global, mark: bool) -> Result<TreeSet, AllocError>
         ensures { IfOk result (λ set. set ≡ mark ∷ []) }
     {
-        let mut gaps = Vec::new(alloc);
-        if !mark {
-            return Ok(TreeSet { gaps, rest: 1 });
-        }
-        gaps.push(0)?;
-        Ok(TreeSet { gaps, rest: 0 })
+        let mut runs = Vec::new(alloc);
+        runs.push(0)?;
+        Ok(TreeSet { first: mark, runs })
     }
 
     /// Returns a copy of the set.
@@ -58,8 +58,8 @@ impl TreeSet {
         ensures { IfOk result (λ set. set ≡ self.now) }
     {
         Ok(TreeSet {
-            gaps: Vec::from_slice(alloc, &self.gaps)?,
-            rest: self.rest,
+            first: self.first,
+            runs: Vec::from_slice(alloc, &self.runs)?,
         })
     }
 
@@ -68,18 +68,16 @@ impl TreeSet {
         requires { length self.old + length later.now ≤ usize.MAX }
         ensures { OnOk result (self.new ≡ self.old ++ later.now) }
     {
-        match later.gaps.split_first() {
-            None => {
-                self.rest += later.rest;
-                Ok(())
-            }
-            Some((gap, gaps)) => {
-                self.gaps.push(self.rest + *gap)?;
-                self.gaps.extend_from_slice(gaps)?;
-                self.rest = later.rest;
-                Ok(())
-            }
+        if self.runs.is_empty() {
+            self.first = later.first;
+            self.runs.extend_from_slice(&later.runs)?;
+            return Ok(());
         }
+        if next_mark(self.first, &self.runs) == later.first {
+            self.runs.extend_from_slice(&later.runs)?;
+            return Ok(());
+        }
+        lengthen(&mut self.runs, &later.runs)
     }
 
     /// Returns the places of the set's members among the trees, in rising order.
@@ -90,57 +88,115 @@ impl TreeSet {
         requires { length self.now ≤ usize.MAX }
         ensures { IfOk result (λ places. places.items ≡ places_of self.now) }
     {
-        places_by(alloc, &self.gaps)
+        places_by(alloc, self.first, &self.runs)
     }
 }
 
-/// Returns the places of members with these gaps before them.
-fn places_by(alloc: Global, gaps: &[usize]) -> Result<Vec<usize>, AllocError>
-    requires { length (marks_by gaps.now 0) ≤ usize.MAX }
-    ensures { IfOk result (λ places. places.items ≡ places_of (marks_by gaps.now 0)) }
+/// Returns the mark of the run after these, the first of which has this mark.
+fn next_mark(first: bool, runs: &[usize]) -> bool
+    ensures { result ≡ mark_after first runs.now }
 {
-    let mut places = Vec::with_capacity(alloc, gaps.len())?;
+    if runs.len() % 2 == 0 { first } else { !first }
+}
+
+/// Appends runs, the first of which has the mark of the last one and so makes that one longer.
+fn lengthen(runs: &mut Vec<usize>, later: &[usize]) -> Result<(), AllocError>
+    requires some { 0 < length runs.old.items }
+    requires long { length (marks_by true runs.old.items) + length (marks_by true later.now) ≤ usize.MAX }
+    ensures { OnOk result ((mark : Bool) → marks_by mark runs.new.items
+        ≡ marks_by mark runs.old.items ++ marks_by (not (mark_after mark runs.old.items)) later.now) }
+{
+    let Some((run, others)) = later.split_first() else {
+        return Ok(());
+    };
+    let Some(last) = runs.pop() else {
+        return Ok(());
+    };
+    runs.push(last + *run + 1)?;
+    runs.extend_from_slice(others)?;
+    Ok(())
+}
+
+/// Returns the places of the members of a set with these runs, the first of which has this mark.
+fn places_by(alloc: Global, first: bool, runs: &[usize]) -> Result<Vec<usize>, AllocError>
+    requires { length (marks_by first runs.now) ≤ usize.MAX }
+    ensures { IfOk result (λ places. places.items ≡ places_of (marks_by first runs.now)) }
+{
+    let mut places = Vec::with_capacity(alloc, runs.len())?;
+    let mut mark = first;
     let mut at = 0;
-    for gap in gaps {
-        at += *gap;
-        places.push(at)?;
-        at += 1;
+    for run in runs {
+        let end = at + *run + 1;
+        add_run(&mut places, mark, at, end)?;
+        mark = !mark;
+        at = end;
     }
     Ok(places)
 }
 
-/// Compares two sets, given by their gaps, by the first tree at which they differ: the one that contains it
-/// comes first.
-fn cmp_gaps(gaps: &[usize], rest: usize, others: &[usize], other_rest: usize) -> Ordering
-    ensures { result ≡ marks_cmp (marks_by gaps.now rest) (marks_by others.now other_rest) }
+/// Appends the places of a run with this mark, which begins at a place and ends before another.
+fn add_run(places: &mut Vec<usize>, mark: bool, start: usize, end: usize) -> Result<(), AllocError>
+    ensures { OnOk result ((n : ℕ) → start + n ≡ end →
+        places.new.items ≡ places.old.items ++ places_from start (replicate n mark)) }
 {
-    let mut left = gaps;
+    if !mark {
+        return Ok(());
+    }
+    for place in start..end {
+        places.push(place)?;
+    }
+    Ok(())
+}
+
+/// Compares two sets whose runs begin with the same mark by the first tree at which they differ: the one that
+/// contains it comes first.
+fn cmp_runs(first: bool, runs: &[usize], others: &[usize]) -> Ordering
+    ensures { result ≡ marks_cmp (marks_by first runs.now) (marks_by first others.now) }
+{
+    let mut mark = first;
+    let mut left = runs;
     let mut right = others;
     loop {
         match (left.split_first(), right.split_first()) {
-            (None, None) => return rest.cmp(&other_rest),
-            (None, Some((gap, _))) => return order_at_end(*gap, rest).reverse(),
-            (Some((gap, _)), None) => return order_at_end(*gap, other_rest),
-            (Some((gap, later)), Some((other, others_later))) => {
-                if *gap != *other {
-                    return gap.cmp(other);
+            (None, None) => return Ordering::Equal,
+            (None, Some(_)) => return Ordering::Less,
+            (Some(_), None) => return Ordering::Greater,
+            (Some((run, later)), Some((other, others_later))) => {
+                if *run < *other {
+                    return order_at_end(mark, later);
+                }
+                if *other < *run {
+                    return order_at_end(mark, others_later).reverse();
                 }
                 left = later;
                 right = others_later;
+                mark = !mark;
             }
         }
     }
 }
 
-/// Compares a set that has `gap` trees before its next member with one that has `rest` trees left and no
-/// further member.
-fn order_at_end(gap: usize, rest: usize) -> Ordering
-    ensures { result ≡ end_cmp gap rest }
+/// Compares a set that begins with this mark with one that begins with the other mark, if they have trees.
+fn cmp_first(first: bool, runs: &[usize], others: &[usize]) -> Ordering
+    ensures { result ≡ marks_cmp (marks_by first runs.now) (marks_by (not first) others.now) }
 {
-    if gap < rest {
-        Ordering::Less
-    } else {
+    match (runs.split_first(), others.split_first()) {
+        (None, None) => Ordering::Equal,
+        (None, Some(_)) => Ordering::Less,
+        (Some(_), None) => Ordering::Greater,
+        (Some(_), Some(_)) if first => Ordering::Less,
+        (Some(_), Some(_)) => Ordering::Greater,
+    }
+}
+
+/// Compares a set that ends its run with this mark, and has these runs after it, with one whose run goes on.
+fn order_at_end(mark: bool, later: &[usize]) -> Ordering
+    ensures { result ≡ ended_cmp mark (not (length later.now == 0)) }
+{
+    if mark && !later.is_empty() {
         Ordering::Greater
+    } else {
+        Ordering::Less
     }
 }
 
@@ -178,6 +234,9 @@ impl Ord for TreeSet {
     ghost matches_eq = { λ x y. refl };
 
     fn cmp(&self, other: &TreeSet) -> Ordering {
-        cmp_gaps(&self.gaps, self.rest, &other.gaps, other.rest)
+        if self.first == other.first {
+            return cmp_runs(self.first, &self.runs, &other.runs);
+        }
+        cmp_first(self.first, &self.runs, &other.runs)
     }
 }

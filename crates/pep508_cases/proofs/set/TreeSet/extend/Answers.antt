@@ -1,45 +1,26 @@
-use Rattle.std.proofs.Common.{◌≡◌, ◌∙◌, ◌++◌, ◌∷◌, ◌+◌, [], length, ap, sym, arith}
-use Rattle.std.proofs.lemmas.List.{append_assoc}
-use Rattle.pep508_cases.specs.Sets.{marks_by}
-use Rattle.pep508_cases.proofs.Gaps.{rest_within, gap_within, appended, none_appended, none_of}
+use Rattle.std.proofs.Common.{◌≡◌, ◌∙◌, ◌++◌, length, true, ap, sym, arith}
+use Rattle.pep508_cases.specs.Sets.{marks_by, mark_after}
+use Rattle.pep508_cases.proofs.Runs.{same_from, appended, long_alike}
 use Rattle.pep508_cases.proofs.set.TreeSet.extend.Goals as goal
 
-pub overflow_add-self : goal.overflow_add-self
-overflow_add-self c =
-    let own = rest_within c.self.inside.gaps.items c.self.inside.rest in
-    let more = rest_within c.later.inside.gaps.items c.later.inside.rest in
-    let a = ap length c.self.view_is in
-    let b = ap length c.later.view_is in
-    omega (arith, own, more, a, b, c.requires)
+pub returns-then-next_mark-later : goal.returns-then-next_mark-later
+returns-then-next_mark-later c =
+    let first = c.self.inside.first in
+    let runs = c.self.inside.runs.items in
+    let later = c.later.inside.runs.items in
+    let items : c.extend_from_slice-then-next_mark-later.new.self.items ≡ runs ++ later =
+    c.in_ok-extend_from_slice-2.ensures.items ∙ ap (λ rs. runs ++ rs) c.deref-then-next_mark-later.ensures.value in
+    let mark : mark_after first runs ≡ c.later.inside.first =
+    sym (c.next_mark.ensures ∙ ap (mark_after first) c.deref-2.ensures.value) ∙ same_from c.next_mark.result c.later.inside.first c.if-next_mark-later.true in
+    ap (marks_by first) items ∙ appended first runs later
+    ∙ ap (λ m. marks_by first runs ++ marks_by m later) mark
+    ∙ (λ i. c.self.view_is i ++ c.later.view_is i)
 
-pub overflow_add-self-inside : goal.overflow_add-self-inside
-overflow_add-self-inside c =
-    let gaps : c.later.inside.gaps.items ≡ c.in-Some.gap.now ∷ c.in-Some.gaps.now =
-    sym c.deref.ensures.value ∙ c.in-Some.ensures.cases.0 in
-    let own = rest_within c.self.inside.gaps.items c.self.inside.rest in
-    let more = gap_within c.in-Some.gap.now c.in-Some.gaps.now c.later.inside.rest in
-    let a = ap length c.self.view_is in
-    let b = ap length (ap (λ gs. marks_by gs c.later.inside.rest) (sym gaps) ∙ c.later.view_is) in
-    omega (arith, own, more, a, b, c.requires)
-
-pub returns-in-None : goal.returns-in-None
-returns-in-None c =
-    let rest = c.later.inside.rest in
-    let none : c.later.inside.gaps.items ≡ [] =
-    none_of c.later.inside.gaps.items (ap length (sym c.deref.ensures.value) ∙ c.in-None.ensures.cases) in
-    let later = ap (λ gs. marks_by gs rest) (sym none) ∙ c.later.view_is in
-    none_appended c.self.inside.gaps.items c.self.inside.rest rest ∙ (λ i. c.self.view_is i ++ later i)
-
-pub returns-in_ok-extend_from_slice-in-Some : goal.returns-in_ok-extend_from_slice-in-Some
-returns-in_ok-extend_from_slice-in-Some c =
-    let rest = c.self.inside.rest in
-    let end = c.later.inside.rest in
-    let gap = c.in-Some.gap.now in
-    let gaps = c.in-Some.gaps.now in
-    let is : c.later.inside.gaps.items ≡ gap ∷ gaps = sym c.deref.ensures.value ∙ c.in-Some.ensures.cases.0 in
-    let later = ap (λ gs. marks_by gs end) (sym is) ∙ c.later.view_is in
-    let items : c.extend_from_slice.new.self.items ≡ c.self.inside.gaps.items ++ (rest + gap) ∷ gaps =
-    c.in_ok-extend_from_slice-in-Some.ensures.items ∙ ap (λ gs. gs ++ gaps) c.in_ok-push-in-Some.ensures.items
-    ∙ append_assoc c.self.inside.gaps.items ((rest + gap) ∷ []) gaps in
-    ap (λ gs. marks_by gs end) items ∙ appended c.self.inside.gaps.items rest gap gaps end
-    ∙ (λ i. c.self.view_is i ++ later i)
+pub lengthen-requires-clause-long : goal.lengthen-requires-clause-long
+lengthen-requires-clause-long c =
+    let own = ap length c.self.view_is in
+    let other = ap length c.later.view_is in
+    let a = long_alike true c.self.inside.first c.self.inside.runs.items in
+    let b = long_alike true c.later.inside.first c.later.inside.runs.items in
+    let runs = ap (λ rs. length (marks_by true rs)) c.deref-3.ensures.value in
+    omega (arith, own, other, a, b, runs, c.requires)
