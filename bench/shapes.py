@@ -15,6 +15,8 @@ PROGRAM is crates/reqs_cli/out/reqs_cli where none is named (`./build` makes it)
     specifiers-1000 the same of 1,000 specifiers
     packages        100 packages, each of 12 lines with an extra each
     interpreters    2,000 lines, each for interpreters from another version on
+    plain-nested    100,000 lines without a marker, and 500 for interpreters from another version on each: 500 cases,
+                    each of more than 100,000 lines
     texts-4000      4,000 lines, each for another `os_name`
     texts-100000    100,000 of them
     lists           `same` on one package's lines, which have 2,048 cases, and on others, which have 3,072: each case of
@@ -145,6 +147,12 @@ def with_interpreters():
     return Shape(lines, ["pip 1.0"], ["pip 1.0"], 0.05)
 
 
+def with_plain_lines():
+    plain = [f"pip>={at % 50}.{at % 7}" for at in range(100_000)]
+    nested = [f"pip!={at}.5 ; python_full_version >= '3.{at}'" for at in range(500)]
+    return Shape([*plain, *nested], ["pip 60.0"], ["pip 60.0"], 0.4, mib=80)
+
+
 def with_texts(number, seconds):
     lines = [f"foo ; os_name == 'a{at}'" for at in range(number)]
     return Shape(lines, [], [], seconds, options=["--limit", str(2 * number)])
@@ -167,6 +175,7 @@ SHAPES = {
     "specifiers-1000": lambda: with_specifiers(1000, 1),
     "packages": with_packages,
     "interpreters": with_interpreters,
+    "plain-nested": with_plain_lines,
     "texts-4000": lambda: with_texts(4000, 0.1),
     "texts-100000": lambda: with_texts(100_000, 3),
     "lists": two_lists,

@@ -1,12 +1,12 @@
 -- Sets by their runs: one behind the other, their order, and the places of their members.
-use Rattle.std.proofs.Common.{◌≡◌, ℕ, zero, suc, ◌+◌, ◌<◌, ◌==◌, ◌%◌, ◌++◌, List, [], ◌∷◌, length, true, false, not, Bool}
-use Rattle.std.proofs.Common.{refl, ap, sym, ◌∙◌, arith, replicate, drop, true≢false}
+use Rattle.std.proofs.Common.{◌≡◌, ℕ, zero, suc, ◌+◌, ◌-◌, ◌<◌, ◌≤◌, ◌==◌, ◌%◌, ◌&&◌, ◌||◌, ◌++◌, List, [], ◌∷◌, length, true, false, not, Bool}
+use Rattle.std.proofs.Common.{refl, ap, sym, ◌∙◌, arith, replicate, take, drop, min, true≢false}
 use Rattle.std.proofs.lemmas.List.{append-nil, append_assoc, length-append, length-replicate, replicate-append-replicate}
 use Rattle.std.specs.Bool.{beq}
 use Rattle.std.proofs.lemmas.Bool.Decides.{nat_tests}
 use Rattle.std.specs.Ordering.{ordering_reverse}
 use Rattle.pep508_cases.specs.Cases.{Marks, marks_cmp}
-use Rattle.pep508_cases.specs.Sets.{marks_by, mark_after, places_from, ended_cmp}
+use Rattle.pep508_cases.specs.Sets.{marks_by, mark_after, marked, marks_meet, places_from, ended_cmp}
 
 pub not_not : (mark : Bool) → mark ≡ not (not mark)
 not_not true = refl
@@ -20,6 +20,11 @@ after_evenly mark [] = ((λ e. refl), (λ e. absurd (omega (arith, e))))
 after_evenly mark (run ∷ runs) =
     let before = after_evenly (not mark) runs in
     ((λ e. not_not mark ∙ before.1 (omega (arith, e))), (λ e. before.0 (omega (arith, e))))
+
+-- no runs are of no trees, whichever mark comes first
+pub none_by : (first mark : Bool) (runs : List ℕ) → length runs ≡ 0 → marks_by first runs ≡ marks_by mark runs
+none_by first mark [] e = refl
+none_by first mark (run ∷ runs) e = absurd (omega (arith, e))
 
 -- ---- one behind the other
 
@@ -38,6 +43,30 @@ grouped mark last run xs =
     ∙ ap (λ r. r ++ xs) (sym (replicate-append-replicate (suc last) (suc run) mark))
     ∙ append_assoc (replicate (suc last) mark) (replicate (suc run) mark) xs
     ∙ ap (λ r. r ++ (replicate (suc run) mark ++ xs)) (sym (append-nil (replicate (suc last) mark)))
+
+after_turn : (mark : Bool) (runs : List ℕ) (run : ℕ) → mark_after mark (runs ++ run ∷ []) ≡ not (mark_after mark runs)
+after_turn mark [] run = refl
+after_turn mark (r ∷ runs) run = after_turn (not mark) runs run
+
+-- one tree more, of the last run or of a new one
+pub one_longer : (first : Bool) (runs : List ℕ) (run : ℕ) →
+    marks_by first (runs ++ (run + 1) ∷ []) ≡ marks_by first (runs ++ run ∷ []) ++ mark_after first runs ∷ []
+one_longer first runs run =
+    let mark = mark_after first runs in
+    let long : suc (run + 1) ≡ suc run + 1 = omega arith in
+    appended first runs ((run + 1) ∷ [])
+    ∙ ap (λ n. marks_by first runs ++ (replicate n mark ++ [])) long
+    ∙ ap (λ r. marks_by first runs ++ (r ++ [])) (sym (replicate-append-replicate (suc run) 1 mark))
+    ∙ ap (λ r. marks_by first runs ++ r) (append_assoc (replicate (suc run) mark) (mark ∷ []) [])
+    ∙ sym (append_assoc (marks_by first runs) (replicate (suc run) mark) (mark ∷ []))
+    ∙ ap (λ r. (marks_by first runs ++ r) ++ mark ∷ []) (sym (append-nil (replicate (suc run) mark)))
+    ∙ ap (λ r. r ++ mark ∷ []) (sym (appended first runs (run ∷ [])))
+
+pub one_turned : (first : Bool) (runs : List ℕ) (run : ℕ) →
+    marks_by first ((runs ++ run ∷ []) ++ 0 ∷ []) ≡ marks_by first (runs ++ run ∷ []) ++ not (mark_after first runs) ∷ []
+one_turned first runs run =
+    appended first (runs ++ run ∷ []) (0 ∷ [])
+    ∙ ap (λ m. marks_by first (runs ++ run ∷ []) ++ m ∷ []) (after_turn first runs run)
 
 -- a run that goes on with the last one
 pub merged : (mark : Bool) (front : List ℕ) (last run : ℕ) (others : List ℕ) →
@@ -115,6 +144,82 @@ other_from true false e = refl
 other_from false true e = refl
 other_from false false e = absurd (true≢false e)
 
+-- ---- some trees more of two sets
+
+pub split_run : (mark : Bool) (count run : ℕ) (xs : Marks) → count < run →
+    replicate (suc run) mark ++ xs ≡ replicate (suc count) mark ++ (replicate (suc (run - count - 1)) mark ++ xs)
+split_run mark count run xs h =
+    let long : suc run ≡ suc count + suc (run - count - 1) = omega (arith, h) in
+    ap (λ n. replicate n mark ++ xs) long
+    ∙ ap (λ r. r ++ xs) (sym (replicate-append-replicate (suc count) (suc (run - count - 1)) mark))
+    ∙ append_assoc (replicate (suc count) mark) (replicate (suc (run - count - 1)) mark) xs
+
+pub not_both : (mark other : Bool) → other ≡ false → (mark && other) ≡ false
+not_both true other e = e
+not_both false other e = refl
+
+pub runs_apart : (mark other : Bool) (n : ℕ) (xs ys : Marks) → (mark && other) ≡ false →
+    marks_meet (replicate n mark ++ xs) (replicate n other ++ ys) ≡ marks_meet xs ys
+runs_apart mark other zero xs ys e = refl
+runs_apart mark other (suc n) xs ys e =
+    ap (λ b. b || marks_meet (replicate n mark ++ xs) (replicate n other ++ ys)) e ∙ runs_apart mark other n xs ys e
+
+none_marked : (marks : Marks) (ns : List ℕ) → ns ≡ [] → marked marks ns ≡ []
+none_marked [] ns e = refl
+none_marked (b ∷ marks) [] e = refl
+none_marked (b ∷ marks) (x ∷ ns) e = absurd (cc)
+
+take_most : (k n : ℕ) (ns : List ℕ) → k ≡ min n (length ns) → take k ns ≡ take n ns
+take_most zero zero ns e = refl
+take_most (suc k) zero ns e = absurd (omega (arith, e))
+take_most zero (suc n) [] e = refl
+take_most (suc k) (suc n) [] e = refl
+take_most zero (suc n) (x ∷ ns) e = absurd (omega (arith, e))
+take_most (suc k) (suc n) (x ∷ ns) e = ap (λ l. x ∷ l) (take_most k n ns (omega (arith, e)))
+
+drop_most : (k n : ℕ) (ns : List ℕ) → k ≡ min n (length ns) → drop k ns ≡ drop n ns
+drop_most zero zero ns e = refl
+drop_most (suc k) zero ns e = absurd (omega (arith, e))
+drop_most zero (suc n) [] e = refl
+drop_most (suc k) (suc n) [] e = refl
+drop_most zero (suc n) (x ∷ ns) e = absurd (omega (arith, e))
+drop_most (suc k) (suc n) (x ∷ ns) e = drop_most k n ns (omega (arith, e))
+
+pub marked_run : (n : ℕ) (xs : Marks) (ns : List ℕ) →
+    marked (replicate n true ++ xs) ns ≡ take n ns ++ marked xs (drop n ns)
+marked_run zero xs ns = refl
+marked_run (suc n) xs [] = sym (none_marked xs [] refl)
+marked_run (suc n) xs (x ∷ ns) = ap (λ l. x ∷ l) (marked_run n xs ns)
+
+pub unmarked_run : (n : ℕ) (xs : Marks) (ns : List ℕ) → marked (replicate n false ++ xs) ns ≡ marked xs (drop n ns)
+unmarked_run zero xs ns = refl
+unmarked_run (suc n) xs [] = sym (none_marked xs [] refl)
+unmarked_run (suc n) xs (x ∷ ns) = unmarked_run n xs ns
+
+-- what a run selects, and what is left after it
+pub selected : (found more own later : List ℕ) (mark : Bool) (k run : ℕ) (runs left whole : List ℕ) →
+    k ≡ min (suc run) (length left) → own ≡ take k left → later ≡ drop k left → mark ≡ true → more ≡ found ++ own →
+    (found ++ marked (marks_by mark (run ∷ runs)) left) ≡ whole →
+    (more ++ marked (marks_by (not mark) runs) later) ≡ whole
+selected found more own later true k run runs left whole ends front back is added before =
+    let xs = marks_by false runs in
+    (λ i. added i ++ marked xs (back i))
+    ∙ (λ i. (found ++ front i) ++ marked xs (drop_most k (suc run) left ends i))
+    ∙ (λ i. (found ++ take_most k (suc run) left ends i) ++ marked xs (drop (suc run) left))
+    ∙ append_assoc found (take (suc run) left) (marked xs (drop (suc run) left))
+    ∙ ap (λ l. found ++ l) (sym (marked_run (suc run) xs left)) ∙ before
+selected found more own later false k run runs left whole ends front back is added before = absurd (true≢false (sym is))
+
+pub left_out : (found later : List ℕ) (mark : Bool) (k run : ℕ) (runs left whole : List ℕ) →
+    k ≡ min (suc run) (length left) → later ≡ drop k left → mark ≡ false →
+    (found ++ marked (marks_by mark (run ∷ runs)) left) ≡ whole →
+    (found ++ marked (marks_by (not mark) runs) later) ≡ whole
+left_out found later true k run runs left whole ends back is before = absurd (true≢false is)
+left_out found later false k run runs left whole ends back is before =
+    let xs = marks_by true runs in
+    (λ i. found ++ marked xs ((back ∙ drop_most k (suc run) left ends) i))
+    ∙ ap (λ l. found ++ l) (sym (unmarked_run (suc run) xs left)) ∙ before
+
 -- ---- places
 
 pub places_behind : (at n : ℕ) (mark : Bool) (marks : Marks) →
@@ -158,3 +263,45 @@ pub none_listed : (found : List ℕ) (mark : Bool) (at n : ℕ) → mark ≡ fal
     found ≡ found ++ places_from at (replicate n mark)
 none_listed found true at n e = absurd (true≢false e)
 none_listed found false at n e = sym (append-nil found) ∙ ap (λ xs. found ++ xs) (sym (no_places at n))
+
+-- ---- the runs of marks
+
+-- a run, and those before it, of the first marks
+pub record IsSplit (first : Bool) (later : Marks) (index : ℕ) (runs : List ℕ) (mark : Bool) (run : ℕ) : Type 0 where
+  pub marks : marks_by first (runs ++ run ∷ []) ≡ first ∷ take index later
+  pub last : mark ≡ mark_after first runs
+  pub small : run ≤ index
+
+pub goes_on : (first : Bool) (later : Marks) (i : ℕ) (runs : List ℕ) (mark next : Bool) (run : ℕ) →
+    take (i + 1) later ≡ take i later ++ next ∷ [] → beq next mark ≡ true → IsSplit first later i runs mark run →
+    IsSplit first later (i + 1) runs mark (run + 1)
+goes_on first later i runs mark next run more same h = record {
+  marks =
+      one_longer first runs run ∙ ap (λ xs. xs ++ mark_after first runs ∷ []) h.marks
+      ∙ ap (λ m. first ∷ (take i later ++ m ∷ [])) (sym (same_from next mark same ∙ h.last))
+      ∙ ap (λ xs. first ∷ xs) (sym more);
+  last = h.last;
+  small = omega (arith, h.small);
+}
+
+pub turns : (first : Bool) (later : Marks) (i : ℕ) (runs : List ℕ) (mark next : Bool) (run : ℕ) →
+    take (i + 1) later ≡ take i later ++ next ∷ [] → beq next mark ≡ false → IsSplit first later i runs mark run →
+    IsSplit first later (i + 1) (runs ++ run ∷ []) next 0
+turns first later i runs mark next run more other h =
+    let turned : next ≡ not (mark_after first runs) =
+    not_not next ∙ ap not (other_from next mark other ∙ h.last) in
+    record {
+      marks =
+          one_turned first runs run ∙ ap (λ xs. xs ++ not (mark_after first runs) ∷ []) h.marks
+          ∙ ap (λ m. first ∷ (take i later ++ m ∷ [])) (sym turned) ∙ ap (λ xs. first ∷ xs) (sym more);
+      last = turned ∙ sym (after_turn first runs run);
+      small = omega arith;
+    }
+
+pub split_is : (first : Bool) (later : Marks) (i : ℕ) (runs now : List ℕ) (mark last : Bool) (run end : ℕ) →
+    now ≡ runs → last ≡ mark → end ≡ run → IsSplit first later i runs mark run → IsSplit first later i now last end
+split_is first later i runs now mark last run end a b e h = record {
+  marks = (λ k. marks_by first (a k ++ e k ∷ [])) ∙ h.marks;
+  last = b ∙ h.last ∙ ap (mark_after first) (sym a);
+  small = omega (arith, e, h.small);
+}

@@ -5,11 +5,12 @@
 //! sets of the first ones.
 
 ghost use Rattle.std.specs.Prelude.{◌≡◌, ◌≤◌, ◌==◌, ◌<◌, ◌+◌, ◌++◌, ◌∷◌, [], ℕ, Bool, true, not, length};
-ghost use Rattle.std.specs.Prelude.{replicate, refl, IfOk, OnOk};
+ghost use Rattle.std.specs.Prelude.{replicate, min, suc, refl, IfOk, OnOk};
 ghost use Rattle.std.specs.Cmp.{eq_by_cmp_equiv, partial_equiv_from_equiv, partial_order_from_agreeing_total};
 ghost use Rattle.std.specs.Ordering.{eq_by_cmp, as_partial_cmp};
 ghost use Rattle.pep508_cases.specs.Cases.{marks_cmp};
 ghost use Rattle.pep508_cases.specs.Sets.{marks_by, mark_after, places_of, places_from, ended_cmp};
+ghost use Rattle.pep508_cases.specs.Sets.{marked, marks_meet, rest_marks, rest_runs};
 ghost use Rattle.pep508_cases.specs.SetOrder.{marks_total};
 
 use std::alloc::{AllocError, Global};
@@ -35,7 +36,7 @@ impl Model for TreeSet {
 
 impl TreeSet {
     /// Returns the set of no trees.
-    pub(crate) fn new(alloc: Global) -> TreeSet
+    pub fn new(alloc: Global) -> TreeSet
         ensures { result ≡ [] }
     {
         TreeSet {
@@ -53,14 +54,33 @@ impl TreeSet {
         Ok(TreeSet { first: mark, runs })
     }
 
-    /// Returns a copy of the set.
-    pub(crate) fn copied(&self, alloc: Global) -> Result<TreeSet, AllocError>
+    /// Returns a copy of the set. Linear in its runs.
+    ///
+    /// # Errors
+    /// Where memory ran out.
+    pub fn try_clone(&self, alloc: Global) -> Result<TreeSet, AllocError>
         ensures { IfOk result (λ set. set ≡ self.now) }
     {
         Ok(TreeSet {
             first: self.first,
             runs: Vec::from_slice(alloc, &self.runs)?,
         })
+    }
+
+    /// Makes this the set of as many trees as there are marks that contains those with the mark `true`. Linear
+    /// in the marks. The memory of the set's runs is used again.
+    ///
+    /// # Errors
+    /// Where memory ran out.
+    pub fn mark(&mut self, marks: &[bool]) -> Result<(), AllocError>
+        ensures { OnOk result (self.new ≡ marks.now) }
+    {
+        self.runs.clear();
+        let Some((first, later)) = marks.split_first() else {
+            return Ok(());
+        };
+        self.first = *first;
+        push_runs(&mut self.runs, *first, later)
     }
 
     /// Appends another set, whose trees come after those of this one.
@@ -70,14 +90,53 @@ impl TreeSet {
     {
         if self.runs.is_empty() {
             self.first = later.first;
-            self.runs.extend_from_slice(&later.runs)?;
-            return Ok(());
         }
         if next_mark(self.first, &self.runs) == later.first {
             self.runs.extend_from_slice(&later.runs)?;
             return Ok(());
         }
         lengthen(&mut self.runs, &later.runs)
+    }
+
+    /// Returns those of the trees' numbers that are numbers of the set's members. Linear in the runs and in
+    /// what is returned.
+    ///
+    /// # Errors
+    /// Where memory ran out.
+    pub fn select(&self, alloc: Global, numbers: &[usize]) -> Result<Vec<usize>, AllocError>
+        ensures { IfOk result (λ found. found.items ≡ marked self.now numbers.now) }
+    {
+        let mut found = Vec::new(alloc);
+        let mut mark = self.first;
+        let mut left = numbers;
+        for run in &self.runs {
+            let (own, later) = left.split_at(run_end(*run, left.len()));
+            if mark {
+                found.extend_from_slice(own)?;
+            }
+            mark = !mark;
+            left = later;
+        }
+        Ok(found)
+    }
+
+    /// Whether the two sets have a common member. Linear in the runs of both.
+    pub fn meets(&self, other: &TreeSet) -> bool
+        ensures { result ≡ marks_meet self.now other.now }
+    {
+        let mut left = rest_of(self.first, &self.runs);
+        let mut right = rest_of(other.first, &other.runs);
+        loop {
+            let (Some(own), Some(others)) = (left, right) else {
+                return false;
+            };
+            if own.mark && others.mark {
+                return true;
+            }
+            let count = own.run.min(others.run);
+            left = own.after(count);
+            right = others.after(count);
+        }
     }
 
     /// Returns the places of the set's members among the trees, in rising order.
@@ -90,6 +149,76 @@ impl TreeSet {
     {
         places_by(alloc, self.first, &self.runs)
     }
+}
+
+/// Returns where a run ends among so many trees, of which it is the first ones.
+fn run_end(run: usize, count: usize) -> usize
+    ensures { result ≡ min (suc run) count }
+{
+    if run < count { run + 1 } else { count }
+}
+
+/// What is left of a set's runs after some of its trees: a run with this mark, and those after it.
+#[derive(Clone, Copy, Drop)]
+struct Rest<'a> {
+    mark: bool,
+    run: usize,
+    later: &'a [usize],
+}
+
+impl<'a> Rest<'a> {
+    /// Returns what is left after some more trees, one more than `count`, of the same run.
+    fn after(&self, count: usize) -> Option<Rest<'a>>
+        requires { count ≤ self.now.run }
+        ensures marks { marks_by self.now.mark (self.now.run ∷ self.now.later.now)
+            ≡ replicate (suc count) self.now.mark ++ rest_marks result }
+        ensures fewer { rest_runs result ≤ suc (length self.now.later.now) }
+        ensures ended { count ≡ self.now.run → rest_runs result ≡ length self.now.later.now }
+    {
+        if count < self.run {
+            return Some(Rest {
+                mark: self.mark,
+                run: self.run - count - 1,
+                later: self.later,
+            });
+        }
+        rest_of(!self.mark, self.later)
+    }
+}
+
+/// Returns the runs, the first of which has this mark, if there are some.
+fn rest_of(mark: bool, runs: &[usize]) -> Option<Rest<'_>>
+    ensures marks { rest_marks result ≡ marks_by mark runs.now }
+    ensures runs { rest_runs result ≡ length runs.now }
+{
+    match runs.split_first() {
+        Some((run, later)) => Some(Rest {
+            mark,
+            run: *run,
+            later,
+        }),
+        None => None,
+    }
+}
+
+/// Appends the runs of trees, the first of which has this mark and the others these, to none.
+fn push_runs(runs: &mut Vec<usize>, first: bool, later: &[bool]) -> Result<(), AllocError>
+    requires { runs.old.items ≡ [] }
+    ensures { OnOk result (marks_by first runs.new.items ≡ first ∷ later.now) }
+{
+    let mut mark = first;
+    let mut run = 0;
+    for next in later {
+        if *next == mark {
+            run += 1;
+        } else {
+            runs.push(run)?;
+            mark = *next;
+            run = 0;
+        }
+    }
+    runs.push(run)?;
+    Ok(())
 }
 
 /// Returns the mark of the run after these, the first of which has this mark.

@@ -62,7 +62,7 @@ pub(crate) fn copied_set(
     ensures { IfOk result (λ set. set ≡ set_at sets.now place) }
 {
     match sets.get(place) {
-        Some(set) => set.copied(alloc),
+        Some(set) => set.try_clone(alloc),
         None => Ok(TreeSet::new(alloc)),
     }
 }

@@ -135,14 +135,14 @@ fn with_cases(
     let table = built(alloc, interner, vars, other)?;
     let name = PackageName::from_str(alloc, "foo").or(Err(AllocError))?;
     let mut text = format!(in alloc; "{answer} / ")?;
-    push_cases(&mut text, table.cases(&name).unwrap_or(&[]))?;
+    push_cases(alloc, &mut text, table.cases(&name).unwrap_or(&[]))?;
     Ok(text)
 }
 
 /// Appends the numbers of the lines of each case.
-fn push_cases(text: &mut String, cases: &[Case]) -> Result<(), AllocError> {
+fn push_cases(alloc: Global, text: &mut String, cases: &[Case]) -> Result<(), AllocError> {
     for case in cases {
-        write!(text, "{:?}", case.lines)?;
+        write!(text, "{:?}", case.lines(alloc)?)?;
     }
     Ok(())
 }

@@ -29,6 +29,12 @@ pub record IsReady (callable : Type 0) (returns : Bor VersionRecord → Bool →
   pub separated : HasSeparator run.text.texts
   pub known : AreKnown format returns nodes candidates run.text.texts run.table (pieces_of run.known.items)
 
+-- the candidates of a table's packages and the outcomes decided so far serve it still
+pub record KeepsRuns (returns : Bor VersionRecord → Bool → Bool → Type 0) (before run : Answering) : Type 0 where
+  pub candidates : run.runs.candidates ≡ before.runs.candidates
+  pub runs : AreRunsOf run.table run.runs
+  pub told : AreTold returns run.table run.runs
+
 abbrev pub IsReadyFor : Type 0 → (Bor VersionRecord → Bool → Bool → Type 0) → Query → Answering → Type 0
 IsReadyFor callable returns query =
     IsReady callable returns query.format query.interner.now.nodes query.candidates.now

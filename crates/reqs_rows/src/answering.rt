@@ -18,7 +18,7 @@ ghost use Rattle.reqtable_table.specs.Counts.{all_tests};
 ghost use Rattle.reqtable_table.specs.Kept.{KeepsAll};
 ghost use Rattle.reqtable_table.specs.Standing.{HasItsLines};
 ghost use Rattle.reqs_rows.specs.Asked.{nodes_in, valuation_in, candidates_in, format_in};
-ghost use Rattle.reqs_rows.specs.Ready.{IsReadyFor, IsReadyIn};
+ghost use Rattle.reqs_rows.specs.Ready.{IsReadyFor, IsReadyIn, KeepsRuns};
 ghost use Rattle.reqs_rows.specs.Texts.{HasSeparator, PutsAnswer, PutsRows};
 
 use crate::known::Known;
@@ -44,7 +44,8 @@ pub struct Answering<'o, 'a> {
 }
 
 impl<'o, 'a> Answering<'o, 'a> {
-    /// An empty text and no rows for a table, with memory reserved as `Pieces::new` does.
+    /// An empty text and no rows for a table. Reserves memory for `room` occurrences of rows and
+    /// separators in the text, if there is that much: so that this many need memory for new rows alone.
     ///
     /// # Errors
     ///
@@ -101,6 +102,7 @@ impl<'o, 'a> Answering<'o, 'a> {
             (asks_of (valuation_of environment.now query.now.extras.now) said) query.now.candidates.now
             self.old.text.whole self.new.text.whole) }
         ensures kept { AllZip SamePackage self.new.table self.old.table }
+        ensures runs { KeepsRuns (F.post admission.now) self.old self.new }
         ensures tests { all_tests self.new.table ≤ all_tests self.old.table
             + most_tests_of query.now.interner.now.nodes
             (valuation_of environment.now query.now.extras.now) query.now.candidates.now self.old.table }
@@ -140,6 +142,7 @@ fn put_rows<F: Fn(&Version, bool) -> bool>(
         PutsRows (format_in asked.now) admits (nodes_in asked.now) (valuation_in asked.now)
         (candidates_in asked.now) run.old.table run.old.text.whole run.new.text.whole) }
     ensures kept { AllZip SamePackage run.new.table run.old.table }
+    ensures runs { KeepsRuns (F.post admission.now) run.old run.new }
     ensures tests { all_tests run.new.table ≤ all_tests run.old.table + most_tests_of (nodes_in asked.now)
         (valuation_in asked.now) (candidates_in asked.now) run.old.table }
 {

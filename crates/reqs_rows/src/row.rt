@@ -11,7 +11,7 @@ ghost use Rattle.reqtable_table.specs.Kept.{KeptPackage};
 ghost use Rattle.reqtable_table.specs.Standing.{HasItsLines};
 ghost use Rattle.reqs_json.specs.Rows.{row_in};
 ghost use Rattle.reqs_rows.specs.Asked.{nodes_in, valuation_in, candidates_in, format_in};
-ghost use Rattle.reqs_rows.specs.Ready.{IsReadyIn};
+ghost use Rattle.reqs_rows.specs.Ready.{IsReadyIn, KeepsRuns};
 ghost use Rattle.reqs_rows.specs.Texts.{PutsRow};
 
 use crate::answering::Answering;
@@ -46,6 +46,7 @@ pub(crate) fn put_row<F: Fn(&Version, bool) -> bool>(
         PutsRow (format_in asked.now) admits (nodes_in asked.now) (valuation_in asked.now)
         (candidates_in asked.now) (get_or run.old.table index other) run.old.text.whole run.new.text.whole) }
     ensures kept { AllZip SamePackage run.new.table run.old.table }
+    ensures runs { KeepsRuns (F.post admission.now) run.old run.new }
     ensures tests { (other : KeptPackage) → all_tests run.new.table ≤ all_tests run.old.table
         + most_tests_in (nodes_in asked.now) (valuation_in asked.now) (candidates_in asked.now)
         (get_or run.old.table index other) }

@@ -17,7 +17,8 @@ use Rattle.reqtable_answer.specs.Asks.{has_extra, is_of}
 use Rattle.reqtable_requirements.specs.Asks.{lines_of}
 use Rattle.reqtable_requirements.specs.LineReading.{LineRecord}
 use Rattle.reqtable_requirements.specs.declared.requirements.Line.{Line}
-use Rattle.reqtable_cases.specs.Lines.{marked, asked_by}
+use Rattle.pep508_cases.specs.Sets.{marked}
+use Rattle.reqtable_cases.specs.Lines.{asked_by}
 use Rattle.reqtable_cases.specs.Usable.{IsRangeOf}
 use Rattle.reqtable_table.specs.Cases.{IsCaseOfLines, AreCasesOf}
 use Rattle.reqtable_table.specs.Kept.{KeptLine, KeptCase}

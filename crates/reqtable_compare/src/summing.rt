@@ -86,11 +86,12 @@ fn summary(
     ensures { IfOk result (λ found.
         IsSummed lines.now (kept_under name.now table.now) (summary_record found) (case_record case.now)) }
 {
-    let lists = lists_of(alloc, lines, &case.lines)?;
+    let numbers = case.lines(alloc)?;
+    let lists = lists_of(alloc, lines, &numbers)?;
     let extras = united_extras(alloc, &lists)?;
     let range = table.range(alloc, name, case)?;
     Ok(Summary {
-        has_lines: has_some(&case.lines),
+        has_lines: has_some(&numbers),
         extras,
         range,
         prerelease: case.pre,

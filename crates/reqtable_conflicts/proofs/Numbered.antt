@@ -13,7 +13,8 @@ use Rattle.reqtable_requirements.specs.Asks.{applies}
 use Rattle.reqtable_requirements.specs.LineReading.{LineRecord}
 use Rattle.reqtable_requirements.specs.Requirements.{StandsFor}
 use Rattle.reqtable_requirements.specs.declared.requirements.Line.{Line}
-use Rattle.reqtable_cases.specs.Lines.{line_marks, marked}
+use Rattle.pep508_cases.specs.Sets.{marked}
+use Rattle.reqtable_cases.specs.Lines.{line_marks}
 
 abbrev pub number_of : LineRecord → ℕ
 number_of line = line.number

@@ -164,7 +164,7 @@ fn push_conflict(
 {
     let conflict = Conflict {
         package: name.try_clone(alloc)?,
-        lines: copied(alloc, &case.lines)?,
+        lines: case.lines(alloc)?,
         pre: case.pre,
     };
     found.push(conflict)?;
@@ -181,7 +181,8 @@ fn is_conflict(
     ensures { IfOk result (λ conflict.
         IsTrue conflict ↔ HasNoPoint (kept_under name.now table.now) (case_record case.now)) }
 {
-    if case.lines.is_empty() {
+    let lines = case.lines(alloc)?;
+    if lines.is_empty() {
         return Ok(false);
     }
     match table.range(alloc, name, case)? {
@@ -195,12 +196,4 @@ pub(crate) fn holds_nothing(range: &Ranges<Version>) -> bool
     ensures { IsTrue result ↔ ((p : Point VersionRecord) → holds_at version_cmp range.now p ≡ false) }
 {
     range.is_empty()
-}
-
-fn copied(alloc: Global, numbers: &[usize]) -> Result<Vec<usize>, AllocError>
-    ensures { IfOk result (λ copy. copy.items ≡ numbers.now) }
-{
-    let mut copy = Vec::new(alloc);
-    copy.extend_from_slice(numbers)?;
-    Ok(copy)
 }

@@ -10,7 +10,7 @@ use Rattle.std.specs.List.{list_all, AllZip}
 use Rattle.pep440_version.specs.Record.{VersionRecord}
 use Rattle.pep508_requirement_text.specs.FrontReading.{Front}
 use Rattle.reqtable_answer.specs.Asks.{specifiers_of, ask_takes}
-use Rattle.reqtable_cases.specs.Lines.{marked}
+use Rattle.pep508_cases.specs.Sets.{marked}
 use Rattle.reqtable_cases.specs.Usable.{members_asked}
 use Rattle.reqtable_table.specs.declared.kept.TableLine.{TableLine}
 use Rattle.reqtable_table.specs.Answers.{SameLine}

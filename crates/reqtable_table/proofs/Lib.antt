@@ -3,6 +3,7 @@ pub mod Packages
 pub mod Rising
 pub mod Said
 pub mod Ranging
+mod OfGiven
 pub mod Numbered
 pub mod UnderName
 pub mod Counting
@@ -21,6 +22,7 @@ pub mod Telling
 pub mod Finding
 pub mod KeptFlags
 pub mod Same
+mod ByNumbers
 pub mod Searching
 pub mod Own
 pub mod Rows
@@ -29,4 +31,3 @@ pub mod Told
 pub mod Lasting
 pub mod LentTable
 pub mod Placed
-mod Picked

@@ -2,7 +2,7 @@
 use Rattle.std.proofs.Common.{◌≡◌, ◌∙◌, ℕ, ◌+◌, ◌<◌, Bool, true, false, cond, List, [], ◌∷◌, ◌++◌, map, take}
 use Rattle.std.proofs.Common.{get_or, length, refl, sym, ap, arith}
 use Rattle.std.proofs.lemmas.List.{take_more, length-take}
-use Rattle.reqtable_cases.specs.Lines.{marked}
+use Rattle.pep508_cases.specs.Sets.{marked}
 
 marked_pushed : {A : Type 0} (marks : List Bool) (xs : List A) (mark : Bool) (x : A) → length marks ≡ length xs →
     marked (marks ++ mark ∷ []) (xs ++ x ∷ []) ≡ marked marks xs ++ cond mark (x ∷ []) []

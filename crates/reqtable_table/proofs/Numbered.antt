@@ -13,7 +13,7 @@ use Rattle.std.specs.Ordering.{nat_cmp, is_lt, ordering_index, ordering_reverse}
 use Rattle.version_ranges.specs.Point.{Point}
 use Rattle.pep440_version.specs.Record.{VersionRecord}
 use Rattle.pep508_cases.specs.Cases.{Marks}
-use Rattle.reqtable_cases.specs.Lines.{marked}
+use Rattle.pep508_cases.specs.Sets.{marked}
 use Rattle.reqtable_cases.specs.Usable.{IsRangeOf}
 use Rattle.reqtable_table.specs.declared.kept.TableLine.{TableLine}
 use Rattle.reqtable_table.specs.Choosing.{case_asks}

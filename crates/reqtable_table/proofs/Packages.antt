@@ -1,5 +1,5 @@
 -- The package of a group.
-use Rattle.std.proofs.Common.{◌≡◌, ◌∙◌, ℕ, suc, List, [], ◌∷◌, ◌++◌, map, length, refl, sym, ap, subst}
+use Rattle.std.proofs.Common.{◌≡◌, ◌∙◌, suc, List, [], ◌∷◌, ◌++◌, map, length, refl, sym, ap, subst}
 use Rattle.std.specs.List.{AllZip, AllByRecursion}
 use Rattle.pep508_diagram.specs.Question.{Valuation}
 use Rattle.pep508_tree.specs.Tree.{Tree}
@@ -7,13 +7,13 @@ use Rattle.pep508_tree.specs.Meaning.{NodeRecord, IsTree, Extends}
 use Rattle.pep508_tree.proofs.Conjoining.{tree_kept}
 use Rattle.pep508_tree.proofs.Diagrams.{holds_kept}
 use Rattle.pep508_cases.proofs.Keeping.{cases_kept as cases_on}
-use Rattle.pep508_cases.specs.Cases.{Marks, marks_of, IsCase, AreCases}
+use Rattle.pep508_cases.specs.Cases.{Marks, marks_of, AreCases}
 use Rattle.reqtable_answer.specs.Asks.{names_prerelease}
-use Rattle.reqtable_cases.specs.Lines.{marked}
+use Rattle.pep508_cases.specs.Sets.{marked}
 use Rattle.reqtable_groups.specs.declared.given.Given.{Given}
 use Rattle.reqtable_table.specs.Kept.{KeptLine, KeptCase, KeptPackage, kept_front}
 use Rattle.reqtable_table.specs.Cases.{IsCaseOf, HasItsCases}
-use Rattle.reqtable_table.specs.Casing.{given_front, HaveMarks, IsCaseOfGiven}
+use Rattle.reqtable_table.specs.Casing.{given_front, IsCaseOfGiven}
 use Rattle.reqtable_table.specs.KeptLines.{kept_by}
 use Rattle.reqtable_table.proofs.Marking.{marked_map}
 
@@ -65,25 +65,13 @@ by_lines old new (line ∷ lines) keeps h = (tree_kept old new keeps line.marker
 
 -- ---- cases
 
-marks_long : (nodes : List NodeRecord) (trees : List Tree) (v : Valuation) → length (marks_of nodes trees v) ≡ length trees
-marks_long nodes [] v = refl
-marks_long nodes (tree ∷ trees) v = ap (λ n. suc n) (marks_long nodes trees v)
-
--- each case has a mark for each tree
-pub have_marks : (nodes now : List NodeRecord) (trees : List Tree) (count : ℕ) (sets : List (Marks × Tree)) → length trees ≡ count →
-    AllByRecursion (IsCase (marks_of nodes trees) now) sets → AllByRecursion (HaveMarks count) sets
-have_marks nodes now trees count [] e h = tt
-have_marks nodes now trees count (set ∷ sets) e h = (
-  sym (ap length h.0.realised.1) ∙ marks_long nodes trees h.0.realised.0 ∙ e,
-  have_marks nodes now trees count sets e h.1,
-)
-
 asks_kept : (lines : List Given) (set : Marks) → map kept_front (marked set (map kept_by lines)) ≡ map given_front (marked set lines)
 asks_kept lines set = ap (map kept_front) (marked_map kept_by set lines) ∙ kept_fronts (marked set lines)
 
 one_kept : (lines : List Given) (case : KeptCase) (set : Marks × Tree) → IsCaseOfGiven lines case set →
     IsCaseOf (map kept_by lines) case set
 one_kept lines case set is = record {
+  set_is = is.set_is;
   numbers = is.numbers ∙ sym (ap (map (λ (line : KeptLine). line.number)) (marked_map kept_by set.0 lines)
       ∙ kept_numbers (marked set.0 lines));
   tree = is.tree;

@@ -9,7 +9,7 @@ use Rattle.pep508_tree.specs.Meaning.{NodeRecord, holds}
 use Rattle.reqtable_candidates.specs.declared.candidates.Candidate.{Candidate}
 use Rattle.reqtable_answer.specs.Admission.{Admits}
 use Rattle.reqtable_answer.specs.Answer.{RowRecord, IsRowOf}
-use Rattle.reqtable_cases.specs.Lines.{marked}
+use Rattle.pep508_cases.specs.Sets.{marked}
 use Rattle.reqtable_table.specs.Answers.{kept_marks, own_candidates, IsRowFor, IsPlaceIn, SameLine}
 use Rattle.reqtable_table.specs.Answers.{SamePackage}
 use Rattle.reqtable_table.specs.Kept.{KeptLine, KeptCase, KeptPackage, kept_front}
@@ -19,7 +19,7 @@ use Rattle.reqtable_table.proofs.Same.{marks_same}
 use Rattle.reqtable_table.proofs.Told.{one_set, marked_numbers}
 
 some_case : KeptCase
-some_case = record { numbers = []; tree = always; prerelease = false }
+some_case = record { set = []; numbers = []; tree = always; prerelease = false }
 
 module _ (nodes : List NodeRecord) (v u : Valuation) (kept : KeptPackage) (stands : HasItsLines kept) (place : ℕ)
     (here : IsPlaceIn nodes v kept place) (there : IsPlaceIn nodes u kept place) where

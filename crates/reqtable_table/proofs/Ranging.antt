@@ -1,21 +1,18 @@
--- Which lines are usable, what range they have, and whether one has a pre-release.
+-- Which lines are usable, and what range they have.
 use Rattle.std.proofs.Common.{◌≡◌, ◌∙◌, ◌&&◌, ◌||◌, Bool, true, false, not, List, [], ◌∷◌, ◌++◌, map, refl}
 use Rattle.std.proofs.Common.{sym, ap, Option, Some, None, Bor, true≢false}
 use Rattle.std.specs.List.{list_any, list_all, flat_map}
 use Rattle.version_ranges.specs.Point.{Point}
 use Rattle.pep440_version.specs.Record.{VersionRecord}
 use Rattle.pep440_specifier.specs.Matching.{SpecifierRecord}
-use Rattle.pep440_specifier_list.specs.Lists.{any_prerelease}
 use Rattle.pep440_range.specs.Ranges.{range_of, all_hold}
 use Rattle.pep508_requirement_text.specs.FrontReading.{Front}
 use Rattle.reqtable_range.specs.Together.{lent}
-use Rattle.reqtable_answer.specs.Asks.{has_url, specifiers_of, names_prerelease}
+use Rattle.reqtable_answer.specs.Asks.{has_url, specifiers_of}
 use Rattle.reqtable_cases.specs.Usable.{members_asked, is_ranged, is_usable, IsRangeOf, IsRangeOfMembers}
-use Rattle.reqtable_groups.specs.declared.given.Given.{Given}
 use Rattle.reqtable_table.specs.declared.kept.TableLine.{TableLine}
 use Rattle.reqtable_table.specs.Kept.{kept_source, kept_front}
 use Rattle.reqtable_table.specs.KeptLines.{lent_lines}
-use Rattle.reqtable_table.specs.Casing.{lent_given, given_front}
 
 abbrev asks_lent : List (Bor TableLine) → List Front
 asks_lent lines = map kept_front (lent_lines lines)
@@ -67,19 +64,3 @@ pub no_url : (lines : List (Bor TableLine)) (members : List (Bor SpecifierRecord
     IsRangeOfMembers (lent members) range → IsRangeOf (asks_lent lines) range
 no_url lines members range e are is =
     range_by (asks_lent lines) (lent members) range (any_url lines ∙ e) (members_are lines e ∙ sym are) is
-
--- ---- pre-releases
-
-named_by : (b : Bool) (members : List SpecifierRecord) →
-    (not b && any_prerelease members) ≡ any_prerelease (specifiers_of (kept_source b members))
-named_by true members = refl
-named_by false members = refl
-
-pub any_named : (lines : List (Bor Given)) →
-    list_any (λ line. not line.now.is_url && any_prerelease line.now.specifiers) lines
-    ≡ names_prerelease (map given_front (lent_given lines))
-any_named [] = refl
-any_named (line ∷ lines) =
-    let here = named_by line.now.is_url line.now.specifiers in
-    let rest = any_named lines in
-    (λ i. here i || rest i)

@@ -14,7 +14,7 @@ use Rattle.reqtable_candidates.specs.Ordered.{AreInOrder}
 use Rattle.reqtable_answer.specs.Admission.{Admits}
 use Rattle.reqtable_answer.specs.Answer.{RowRecord, IsRowOf}
 use Rattle.reqtable_answer.specs.Asks.{is_candidate}
-use Rattle.reqtable_cases.specs.Lines.{marked}
+use Rattle.pep508_cases.specs.Sets.{marked}
 use Rattle.reqtable_answer.specs.declared.answer.Row.{Row}
 use Rattle.reqtable_answer.specs.Rows.{row_seen}
 use Rattle.reqtable_table.specs.declared.table.Package.{Package}

@@ -26,7 +26,7 @@ use Rattle.reqtable_answer.proofs.InOrder.{same_all, same_any}
 use Rattle.reqtable_answer.proofs.Alike.{SayTheSame}
 use Rattle.reqtable_requirements.specs.LineReading.{LineRecord}
 use Rattle.reqtable_requirements.specs.Asks.{applies, asks_of, lines_of}
-use Rattle.reqtable_cases.specs.Lines.{marked}
+use Rattle.pep508_cases.specs.Sets.{marked}
 use Rattle.reqtable_table.specs.Kept.{KeptLine, KeptPackage, Keeps, KeepsAll, names_in, kept_under}
 use Rattle.reqtable_table.specs.Kept.{kept_source, kept_front}
 use Rattle.reqtable_table.specs.Answers.{kept_marks, kept_asked, is_asked, own_candidates, IsRowFor}

@@ -18,7 +18,7 @@ use Rattle.reqtable_candidates.specs.declared.candidates.Candidate.{Candidate}
 use Rattle.reqtable_answer.specs.Asks.{specifiers_of, is_candidate, names_prerelease}
 use Rattle.reqtable_requirements.specs.Asks.{lines_of}
 use Rattle.reqtable_requirements.specs.LineReading.{LineRecord}
-use Rattle.reqtable_cases.specs.Lines.{marked}
+use Rattle.pep508_cases.specs.Sets.{marked}
 use Rattle.reqtable_table.specs.Answers.{SameLine, SamePackage, kept_marks}
 use Rattle.reqtable_table.specs.Cases.{IsCaseOf, HasItsCases}
 use Rattle.reqtable_search.specs.Told.{is_bound}
@@ -134,6 +134,7 @@ asks_same a b s set =
 
 case_at : (a b : List KeptLine) → AllZip SameLine a b → (case : KeptCase) (set : Marks × Tree) → IsCaseOf b case set → IsCaseOf a case set
 case_at a b s case set h = record {
+  set_is = h.set_is;
   numbers =
       h.numbers ∙ sym (marked_map (λ (l : KeptLine). l.number) set.0 b)
       ∙ sym (ap (marked set.0) (numbers_same a b s)) ∙ marked_map (λ (l : KeptLine). l.number) set.0 a;

@@ -1,15 +1,14 @@
--- A case by the numbers of its lines.
+-- A case by the set of its lines.
 use Rattle.std.proofs.Common.{◌≡◌, ◌∙◌, ◌<◌, ◌≤◌, ◌+◌, ◌||◌, ◌⊎◌, ℕ, zero, suc, true, false, List, [], ◌∷◌}
-use Rattle.std.proofs.Common.{map, length, get_or, drop, nat_lt, refl, sym, ap, subst, arith, Less, Equal}
+use Rattle.std.proofs.Common.{map, length, get_or, refl, sym, ap, subst, arith, Less, Equal}
 use Rattle.std.proofs.Common.{Greater, inl, inr, true≢false}
 use Rattle.std.proofs.lemmas.Bool.{cases_Bool}
-use Rattle.std.proofs.lemmas.Bool.Decides.{nat_tests}
 use Rattle.std.proofs.lemmas.List.{length-map, get_or-map}
 use Rattle.std.proofs.lemmas.List.Sorted.{searchable_from_sorted}
-use Rattle.std.specs.List.{list_any, AllZip, AllByRecursion}
+use Rattle.std.specs.List.{list_any, AllZip}
 use Rattle.std.specs.List.Sorted.{IsStrictlySortedBy, IsSortedBy, IsNonDecreasingBy, IsPartitionPoint}
-use Rattle.std.specs.Cmp.{nat_cmp_total, tied_itself}
-use Rattle.std.specs.Ordering.{nat_cmp, is_lt, ordering_index, ordering_then, ordering_reverse}
+use Rattle.std.specs.Cmp.{tied_itself}
+use Rattle.std.specs.Ordering.{is_lt, ordering_index, ordering_reverse}
 use Rattle.pep508_diagram.specs.Question.{Valuation}
 use Rattle.pep508_tree.specs.Tree.{Tree}
 use Rattle.pep508_tree.specs.Meaning.{NodeRecord, holds}
@@ -17,84 +16,16 @@ use Rattle.pep508_cases.specs.Cases.{Marks, same_marks, marks_cmp, marks_of, set
 use Rattle.pep508_cases.proofs.Counting.{marks_total}
 use Rattle.pep508_cases.proofs.Marks.{marks_is}
 use Rattle.reqtable_answer.specs.Asks.{names_prerelease}
-use Rattle.reqtable_cases.specs.Lines.{marked}
+use Rattle.pep508_cases.specs.Sets.{marked}
 use Rattle.reqtable_table.specs.declared.table.Case.{Case}
 use Rattle.reqtable_table.specs.declared.table.Package.{Package}
-use Rattle.reqtable_table.specs.declared.kept.TableLine.{TableLine}
 use Rattle.reqtable_table.specs.Answers.{kept_marks}
 use Rattle.reqtable_table.specs.Cases.{IsCaseOf}
-use Rattle.reqtable_table.specs.Casing.{case_record, HaveMarks}
+use Rattle.reqtable_table.specs.Casing.{case_record}
 use Rattle.reqtable_table.specs.Choosing.{AreApplying, IsCaseFor}
 use Rattle.reqtable_table.specs.Kept.{KeptLine, KeptCase, kept_front}
 use Rattle.reqtable_table.specs.KeptLines.{line_record, package_record}
-use Rattle.reqtable_table.specs.Numbers.{numbers_cmp}
 use Rattle.reqtable_table.specs.Standing.{HasItsLines}
-use Rattle.reqtable_table.proofs.Marking.{marked_map}
-use Rattle.reqtable_table.proofs.Packages.{have_marks}
-
--- ---- sets of lines compare as the numbers of their lines
-
-abbrev AllAbove : ℕ → List ℕ → Type 0
-AllAbove n ns = AllByRecursion (λ m. nat_cmp n m ≡ Less) ns
-
-marked_above : (n : ℕ) (marks : Marks) (ns : List ℕ) → AllAbove n ns → AllAbove n (marked marks ns)
-marked_above n [] ns h = tt
-marked_above n (true ∷ marks) [] h = tt
-marked_above n (false ∷ marks) [] h = tt
-marked_above n (true ∷ marks) (m ∷ ns) h = (h.0, marked_above n marks ns h.1)
-marked_above n (false ∷ marks) (m ∷ ns) h = marked_above n marks ns h.1
-
-comes_first : (n : ℕ) (rest ns : List ℕ) → AllAbove n ns → numbers_cmp (n ∷ rest) ns ≡ Less
-comes_first n rest [] h = refl
-comes_first n rest (m ∷ ns) h = ap (λ o. ordering_then o (numbers_cmp rest ns)) h.0
-
-comes_last : (n : ℕ) (rest ns : List ℕ) → AllAbove n ns → numbers_cmp ns (n ∷ rest) ≡ Greater
-comes_last n rest [] h = refl
-comes_last n rest (m ∷ ns) h =
-    ap (λ o. ordering_then o (numbers_cmp ns rest)) (nat_cmp_total.antisymm m n ∙ ap ordering_reverse h.0)
-
-pub numbers_by_marks : (ns : List ℕ) (s t : Marks) → IsStrictlySortedBy nat_cmp ns → length s ≡ length ns → length t ≡ length ns →
-    numbers_cmp (marked s ns) (marked t ns) ≡ marks_cmp s t
-unfolding IsStrictlySortedBy
-numbers_by_marks [] [] [] h a b = refl
-numbers_by_marks [] (x ∷ s) t h a b = absurd (omega arith)
-numbers_by_marks [] [] (y ∷ t) h a b = absurd (omega arith)
-numbers_by_marks (n ∷ ns) [] t h a b = absurd (omega arith)
-numbers_by_marks (n ∷ ns) (x ∷ s) [] h a b = absurd (omega arith)
-numbers_by_marks (n ∷ ns) (true ∷ s) (true ∷ t) h a b =
-    ap (λ o. ordering_then o (numbers_cmp (marked s ns) (marked t ns))) (tied_itself nat_cmp_total n)
-    ∙ numbers_by_marks ns s t h.1 (omega arith) (omega arith)
-numbers_by_marks (n ∷ ns) (true ∷ s) (false ∷ t) h a b = comes_first n (marked s ns) (marked t ns) (marked_above n t ns h.0)
-numbers_by_marks (n ∷ ns) (false ∷ s) (true ∷ t) h a b = comes_last n (marked t ns) (marked s ns) (marked_above n s ns h.0)
-numbers_by_marks (n ∷ ns) (false ∷ s) (false ∷ t) h a b = numbers_by_marks ns s t h.1 (omega arith) (omega arith)
-
--- ---- two lists of numbers, from a place on
-
-none_left : (i : ℕ) (none : List ℕ) → none ≡ [] → drop i none ≡ []
-none_left zero none e = e
-none_left (suc i) [] e = refl
-none_left (suc i) (n ∷ none) e = absurd (cc)
-
-ends_first : (ns others : List ℕ) (i : ℕ) → i < length ns → length others ≤ i → numbers_cmp (drop i ns) (drop i others) ≡ Less
-ends_first [] others i within past = absurd (omega arith)
-ends_first (n ∷ ns) [] zero within past = refl
-ends_first (n ∷ ns) (m ∷ others) zero within past = absurd (omega arith)
-ends_first (n ∷ ns) [] (suc i) within past =
-    ap (numbers_cmp (drop i ns)) (sym (none_left i [] refl)) ∙ ends_first ns [] i (omega arith) (omega arith)
-ends_first (n ∷ ns) (m ∷ others) (suc i) within past = ends_first ns others i (omega arith) (omega arith)
-
-pub other_ends : (ns others : List ℕ) (i : ℕ) → i < length ns → false ≡ nat_lt i (length others) →
-    numbers_cmp (drop i ns) (drop i others) ≡ Less
-other_ends ns others i within past = ends_first ns others i within (grind (arith, nat_tests))
-
-pub goes_on : (ns others : List ℕ) (i : ℕ) → length ns ≤ i → i ≤ length ns → length ns < length others →
-    numbers_cmp (drop i ns) (drop i others) ≡ Greater
-goes_on [] [] i past within longer = absurd (omega arith)
-goes_on [] (m ∷ others) zero past within longer = refl
-goes_on [] (m ∷ others) (suc i) past within longer = absurd (omega arith)
-goes_on (n ∷ ns) [] i past within longer = absurd (omega arith)
-goes_on (n ∷ ns) (m ∷ others) zero past within longer = absurd (omega arith)
-goes_on (n ∷ ns) (m ∷ others) (suc i) past within longer = goes_on ns others i (omega arith) (omega arith) (omega arith)
 
 -- ---- sets
 
@@ -130,18 +61,18 @@ sorted sets h k d low within =
 
 -- a case of some lines by its set
 record IsSetOf (lines : List KeptLine) (case : KeptCase) (set : Marks) : Type 0 where
+  set_is : case.set ≡ set
   numbers : case.numbers ≡ map (λ (l : KeptLine). l.number) (marked set lines)
-  long : length set ≡ length lines
   prerelease : case.prerelease ≡ names_prerelease (map kept_front (marked set lines))
 
-sets_are : (lines : List KeptLine) (cases : List KeptCase) (sets : List (Marks × Tree)) → AllZip (IsCaseOf lines) cases sets →
-    AllByRecursion (HaveMarks (length lines)) sets → AllZip (IsSetOf lines) cases (sets_of sets)
-sets_are lines [] [] h long = tt
-sets_are lines [] (set ∷ sets) h long = absurd h
-sets_are lines (case ∷ cases) [] h long = absurd h
-sets_are lines (case ∷ cases) (set ∷ sets) h long = (
-  record { numbers = h.0.numbers; long = long.0; prerelease = h.0.prerelease },
-  sets_are lines cases sets h.1 long.1,
+sets_are : (lines : List KeptLine) (cases : List KeptCase) (sets : List (Marks × Tree)) →
+    AllZip (IsCaseOf lines) cases sets → AllZip (IsSetOf lines) cases (sets_of sets)
+sets_are lines [] [] h = tt
+sets_are lines [] (set ∷ sets) h = absurd h
+sets_are lines (case ∷ cases) [] h = absurd h
+sets_are lines (case ∷ cases) (set ∷ sets) h = (
+  record { set_is = h.0.set_is; numbers = h.0.numbers; prerelease = h.0.prerelease },
+  sets_are lines cases sets h.1,
 )
 
 module _ {A B C : Type 0} (R : A → B → Type 0) (f : C → A) where
@@ -187,16 +118,6 @@ less_apart a b less equal = absurd (cc)
 pub greater_apart : (a b : Marks) → marks_cmp a b ≡ Greater → marks_cmp a b ≡ Equal → ⊥
 greater_apart a b greater equal = absurd (cc)
 
-numbers_twice : (lines : List TableLine) → map (λ (l : KeptLine). l.number) (map line_record lines) ≡ map (λ (l : TableLine). l.number) lines
-numbers_twice [] = refl
-numbers_twice (line ∷ lines) = ap (λ l. line.number ∷ l) (numbers_twice lines)
-
--- the numbers of marked lines
-pub numbers_seen : (marks : Marks) (lines : List TableLine) →
-    map (λ (l : TableLine). l.number) (marked marks lines) ≡ map (λ (l : KeptLine). l.number) (marked marks (map line_record lines))
-numbers_seen marks lines =
-    sym (ap (map (λ (l : KeptLine). l.number)) (marked_map line_record marks lines) ∙ numbers_twice (marked marks lines))
-
 first_of : (cases : List Case) (place : ℕ) → place < length cases → Case
 first_of [] place within = absurd (omega arith)
 first_of (case ∷ cases) place within = case
@@ -207,9 +128,6 @@ module _ (kept : Package) (marks : Marks) (stands : HasItsLines (package_record 
     (applying : AreApplying marks (package_record kept)) where
   abbrev lines : List KeptLine
   lines = map line_record kept.lines.items
-
-  abbrev pub numbers_at : List ℕ
-  numbers_at = map (λ (l : KeptLine). l.number) (marked marks lines)
 
   abbrev sets : List Marks
   sets = sets_of applying.has.sets
@@ -224,66 +142,58 @@ module _ (kept : Package) (marks : Marks) (stands : HasItsLines (package_record 
   marks_lines_long = marks_long ∙ length-map kept.lines.items line_record
 
   are : AllZip (IsSetOf lines) (map case_record cases) sets
-  are =
-      let markers = map (λ (l : KeptLine). l.marker) lines in
-      sets_are lines (map case_record cases) applying.has.sets applying.has.each
-      (have_marks applying.nodes applying.nodes markers (length lines) applying.has.sets
-      (length-map lines (λ (l : KeptLine). l.marker)) applying.has.are.each)
-
-  order_at : (i : ℕ) (d : Case) → i < length cases →
-      numbers_cmp (get_or cases i d).lines.items numbers_at ≡ marks_cmp (get_or sets i []) marks
-  order_at i d within =
-      let number : KeptLine → ℕ = λ l. l.number in
-      let set = get_or sets i [] in
-      let is = zip_at (IsSetOf lines) case_record cases sets i d [] are within in
-      let long = length-map lines number in
-      let own = marks_long in
-      let his = is.long in
-      ap (λ l. numbers_cmp l numbers_at) (is.numbers ∙ sym (marked_map number set lines))
-      ∙ ap (numbers_cmp (marked set (map number lines))) (sym (marked_map number marks lines))
-      ∙ numbers_by_marks (map number lines) set marks stands.rising (omega arith) (omega arith)
+  are = sets_are lines (map case_record cases) applying.has.sets applying.has.each
 
   cases_long : length cases ≡ length sets
   cases_long = zip_long (IsSetOf lines) case_record cases sets are
 
-  pub searchable : IsNonDecreasingBy (λ (case : Case). ordering_index (numbers_cmp case.lines.items numbers_at)) cases
+  set_at : (i : ℕ) (d : Case) → i < length cases → (get_or cases i d).set ≡ get_or sets i []
+  set_at i d within = (zip_at (IsSetOf lines) case_record cases sets i d [] are within).set_is
+
+  pub searchable : IsNonDecreasingBy (λ (case : Case). ordering_index (marks_cmp case.set marks)) cases
   searchable i j d low within =
       let long = cases_long in
       let rises = searchable_from_sorted marks_total (λ (m : Marks). m) sets marks (sorted sets applying.has.are.rising) in
-      subst (λ o. ordering_index o ≤ ordering_index (numbers_cmp (get_or cases j d).lines.items numbers_at))
-      (sym (order_at i d (omega arith)))
-      (subst (λ o. ordering_index (marks_cmp (get_or sets i []) marks) ≤ ordering_index o) (sym (order_at j d within))
-      (rises i j [] low (omega arith)))
+      subst (λ s. ordering_index (marks_cmp s marks) ≤ ordering_index (marks_cmp (get_or cases j d).set marks))
+      (sym (set_at i d (omega arith)))
+      (subst (λ s. ordering_index (marks_cmp (get_or sets i []) marks) ≤ ordering_index (marks_cmp s marks))
+      (sym (set_at j d within)) (rises i j [] low (omega arith)))
+
+  same_at : (place : ℕ) (d : Case) → place < length cases → marks_cmp (get_or cases place d).set marks ≡ Equal →
+      get_or sets place [] ≡ marks
+  same_at place d within equal =
+      sym (set_at place d within) ∙ marked_equal (get_or cases place d).set marks equal
 
   pub found_case : (place : ℕ) → place < length cases →
-      ((d : Case) → numbers_cmp (get_or cases place d).lines.items numbers_at ≡ Equal) →
+      ((d : Case) → marks_cmp (get_or cases place d).set marks ≡ Equal) →
       (other : Case) → IsCaseFor marks lines (get_or cases place other)
   found_case place within equal other =
       let is = zip_at (IsSetOf lines) case_record cases sets place other [] are within in
-      let same = marked_equal (get_or sets place []) marks (sym (order_at place other within) ∙ equal other) in
-      subst (λ m. IsCaseFor m lines (get_or cases place other)) same
+      subst (λ m. IsCaseFor m lines (get_or cases place other)) (same_at place other within (equal other))
       (record { numbers = is.numbers; prerelease = is.prerelease })
 
   pub found_numbers : (place : ℕ) → place < length cases →
-      ((d : Case) → numbers_cmp (get_or cases place d).lines.items numbers_at ≡ Equal) → (other : KeptCase) →
-      (get_or (map case_record cases) place other).numbers ≡ numbers_at
+      ((d : Case) → marks_cmp (get_or cases place d).set marks ≡ Equal) → (other : KeptCase) →
+      (get_or (map case_record cases) place other).numbers ≡ map (λ (l : KeptLine). l.number) (marked marks lines)
   found_numbers place within equal other =
       let case = first_of cases place within in
       let is = zip_at (IsSetOf lines) case_record cases sets place case [] are within in
-      let same = marked_equal (get_or sets place []) marks (sym (order_at place case within) ∙ equal case) in
+      let same = same_at place case within (equal case) in
       ap (λ (c : KeptCase). c.numbers) (get_or-map case_record cases place case other within)
       ∙ is.numbers ∙ ap (λ m. map (λ (l : KeptLine). l.number) (marked m lines)) same
 
-  pub is_there : (i : ℕ) → IsPartitionPoint (λ (case : Case). numbers_cmp case.lines.items numbers_at ≡ Less)
-      (λ case. numbers_cmp case.lines.items numbers_at ≡ Greater) cases i → ⊥
+  pub is_there : (i : ℕ) → IsPartitionPoint (λ (case : Case). marks_cmp case.set marks ≡ Less)
+      (λ case. marks_cmp case.set marks ≡ Greater) cases i → ⊥
   is_there i parted =
       let there : list_any (same_marks marks) sets ≡ true =
       ap (λ m. list_any (same_marks m) sets)
       (applying.are ∙ sym (marks_of_lines applying.nodes applying.valuation lines))
       ∙ applying.has.are.all applying.valuation in
+      let at : (k : ℕ) (d : Case) → k < length cases → marks_cmp (get_or sets k []) marks ≡ marks_cmp (get_or cases k d).set marks =
+      (λ k d within. ap (λ s. marks_cmp s marks) (sym (set_at k d within))) in
       true≢false (sym there ∙ none_same marks cases sets cases_long (λ k d within. elim (either_side k i) [
         | inl less ↦ differ (get_or sets k []) marks
-            (less_apart (get_or sets k []) marks (sym (order_at k d within) ∙ parted.0 k d (omega arith) less))
+            (less_apart (get_or sets k []) marks (at k d within ∙ parted.0 k d (omega arith) less))
         | inr not_less ↦ differ (get_or sets k []) marks
-            (greater_apart (get_or sets k []) marks (sym (order_at k d within) ∙ parted.1 k d not_less within))
+            (greater_apart (get_or sets k []) marks (at k d within ∙ parted.1 k d not_less within))
       ]))

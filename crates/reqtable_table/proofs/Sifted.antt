@@ -11,7 +11,7 @@ use Rattle.pep440_range.proofs.Lists.{both_true}
 use Rattle.pep508_requirement_text.specs.FrontReading.{Front}
 use Rattle.reqtable_range.specs.Together.{all_take}
 use Rattle.reqtable_answer.specs.Asks.{ask_takes, specifiers_of}
-use Rattle.reqtable_cases.specs.Lines.{marked}
+use Rattle.pep508_cases.specs.Sets.{marked}
 use Rattle.reqtable_table.specs.declared.kept.TableLine.{TableLine}
 use Rattle.reqtable_table.specs.declared.sieving.Asking.{Asking}
 use Rattle.reqtable_table.specs.Choosing.{case_asks}

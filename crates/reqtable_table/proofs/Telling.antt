@@ -21,7 +21,7 @@ use Rattle.pep440_range.specs.Ranges.{range_of}
 use Rattle.pep440_range.proofs.Lists.{both_true, list_agrees, agreeing}
 use Rattle.pep508_requirement_text.specs.FrontReading.{Front}
 use Rattle.reqtable_answer.specs.Asks.{specifiers_of, has_url, ask_takes}
-use Rattle.reqtable_cases.specs.Lines.{marked}
+use Rattle.pep508_cases.specs.Sets.{marked}
 use Rattle.reqtable_cases.specs.Usable.{members_asked, agrees_with_range, is_ranged, is_usable, points_of}
 use Rattle.reqtable_cases.specs.Usable.{IsRangeOf}
 use Rattle.reqtable_cases.proofs.Taken.{usable_takes}

@@ -1,13 +1,12 @@
 -- What is known of a package stays so.
 use Rattle.std.proofs.Common.{◌≡◌, ◌∙◌, ◌<◌, ◌≤◌, ◌⊎◌, ℕ, zero, suc, Bool, true, false, cond, List, [], ◌∷◌}
 use Rattle.std.proofs.Common.{◌++◌, map, filter, take, replicate, set, length, get_or, Option, Some, None}
-use Rattle.std.proofs.Common.{refl, sym, ap, subst, arith, Equal, inl, inr}
+use Rattle.std.proofs.Common.{refl, sym, ap, subst, arith, inl, inr}
 use Rattle.std.proofs.lemmas.List.{length-map}
 use Rattle.std.specs.Borrow.{Bor}
-use Rattle.std.specs.Cmp.{nat_cmp_total, tied_itself}
 use Rattle.std.specs.List.{AllZip, AllByRecursion}
 use Rattle.std.specs.List.Sorted.{IsStrictlySortedBy}
-use Rattle.std.specs.Ordering.{nat_cmp, ordering_then}
+use Rattle.std.specs.Ordering.{nat_cmp}
 use Rattle.pep440_version.specs.Record.{VersionRecord}
 use Rattle.pep508_tree.specs.Tree.{always}
 use Rattle.pep508_cases.specs.Cases.{Marks}
@@ -18,11 +17,10 @@ use Rattle.reqtable_answer.specs.Admission.{Admits, AnswersBy}
 use Rattle.reqtable_answer.specs.Asks.{is_candidate}
 use Rattle.reqtable_answer.specs.Rows.{IsTakenBelow}
 use Rattle.reqtable_answer.specs.declared.answer.Outcome.{Outcome}
-use Rattle.reqtable_cases.specs.Lines.{marked}
+use Rattle.pep508_cases.specs.Sets.{marked}
 use Rattle.reqtable_table.specs.Answers.{SameLine, SamePackage}
 use Rattle.reqtable_table.specs.Choosing.{case_asks, outcome_in_order}
 use Rattle.reqtable_table.specs.Kept.{KeptLine, KeptCase, KeptPackage, kept_front}
-use Rattle.reqtable_table.specs.Numbers.{numbers_cmp}
 use Rattle.reqtable_table.specs.Runs.{OwnRecord, RunsRecord, AreRunsOf, IsTold, AreTold, AreUntold, owns_of}
 use Rattle.reqtable_table.specs.KeptLines.{line_record, package_record}
 use Rattle.reqtable_table.specs.Owns.{own_record}
@@ -33,10 +31,10 @@ use Rattle.reqtable_table.proofs.AskedLines.{same_fronts}
 use Rattle.reqtable_table.proofs.Marking.{marked_map}
 use Rattle.reqtable_table.proofs.Packages.{as_long}
 use Rattle.reqtable_table.proofs.Same.{numbers_same}
-use Rattle.reqtable_table.proofs.Searching.{numbers_by_marks, marked_equal}
+use Rattle.reqtable_table.proofs.ByNumbers.{same_marked}
 
 no_case : KeptCase
-no_case = record { numbers = []; tree = always; prerelease = false }
+no_case = record { set = []; numbers = []; tree = always; prerelease = false }
 
 abbrev number : KeptLine → ℕ
 number line = line.number
@@ -60,19 +58,13 @@ told_or (t ∷ told) (suc p) (suc q) now found h = elim (told_or told p q now fo
   | inr before ↦ inr before
 ]
 
-numbers_tied : (ns : List ℕ) → numbers_cmp ns ns ≡ Equal
-numbers_tied [] = refl
-numbers_tied (n ∷ ns) = ap (λ o. ordering_then o (numbers_cmp ns ns)) (tied_itself nat_cmp_total n) ∙ numbers_tied ns
-
 -- lines of the same numbers are the same
 pub one_set : (lines : List KeptLine) (s t : Marks) → IsStrictlySortedBy nat_cmp (map number lines) → length s ≡ length lines →
     length t ≡ length lines → map number (marked s lines) ≡ map number (marked t lines) → s ≡ t
 one_set lines s t rising a b e =
     let long = length-map lines number in
     let same = marked_map number s lines ∙ e ∙ sym (marked_map number t lines) in
-    marked_equal s t
-    (sym (numbers_by_marks (map number lines) s t rising (omega arith) (omega arith))
-    ∙ ap (λ ns. numbers_cmp ns (marked t (map number lines))) same ∙ numbers_tied (marked t (map number lines)))
+    same_marked (map number lines) s t rising (omega arith) (omega arith) same
 
 module _ (returns : Bor VersionRecord → Bool → Bool → Type 0) (kept : KeptPackage) where
   pub told_more : (own new : OwnRecord) (place : ℕ) (marks : Marks) (now : Outcome) → IsTold returns kept own →

@@ -11,7 +11,7 @@ use Rattle.reqtable_candidates.specs.declared.candidates.Candidate.{Candidate}
 use Rattle.reqtable_answer.specs.Admission.{Admits}
 use Rattle.reqtable_answer.specs.Answer.{RowRecord, IsRowOf}
 use Rattle.reqtable_answer.specs.Asks.{is_candidate}
-use Rattle.reqtable_cases.specs.Lines.{marked}
+use Rattle.pep508_cases.specs.Sets.{marked}
 use Rattle.reqtable_cases.specs.Usable.{is_usable, members_asked}
 use Rattle.reqtable_search.specs.Told.{is_plain}
 use Rattle.reqtable_table.specs.Kept.{KeptLine, KeptCase, KeptPackage, kept_front}

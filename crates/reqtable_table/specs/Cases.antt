@@ -9,7 +9,8 @@ use Rattle.pep508_tree.specs.Meaning.{NodeRecord, IsTree}
 use Rattle.pep508_cases.specs.Cases.{Marks, marks_of, AreCases}
 use Rattle.reqtable_answer.specs.Asks.{names_prerelease}
 use Rattle.reqtable_requirements.specs.LineReading.{LineRecord}
-use Rattle.reqtable_cases.specs.Lines.{marked, line_marks, numbers_of, asked_by, HasTooMany, IsFirstTooMany}
+use Rattle.pep508_cases.specs.Sets.{marked}
+use Rattle.reqtable_cases.specs.Lines.{line_marks, numbers_of, asked_by, HasTooMany, IsFirstTooMany}
 use Rattle.reqtable_table.specs.InAll.{cases_in_all, HasMoreInAll, HasTooManyInAll}
 use Rattle.reqtable_table.specs.declared.table.TableError.{TableError}
 use Rattle.reqtable_table.specs.declared.table.TableError.TheVariants.{TooManyCases, TooManyCasesInAll}
@@ -18,6 +19,7 @@ use Rattle.reqtable_table.specs.Kept.{KeptLine, KeptCase, KeptPackage, KeepsAll,
 
 -- the case of a set of lines, with the set's tree
 pub record IsCaseOf (lines : List KeptLine) (case : KeptCase) (set : Marks × Tree) : Type 0 where
+  pub set_is : case.set ≡ set.0
   pub numbers : case.numbers ≡ map (λ line. line.number) (marked set.0 lines)
   pub tree : case.tree ≡ set.1
   pub prerelease : case.prerelease ≡ names_prerelease (map kept_front (marked set.0 lines))

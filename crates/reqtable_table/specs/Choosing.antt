@@ -21,13 +21,14 @@ use Rattle.reqtable_answer.specs.declared.answer.Outcome.TheVariants.{Direct}
 use Rattle.reqtable_answer.specs.Admission.{Admits}
 use Rattle.reqtable_answer.specs.Answer.{RowRecord, chosen}
 use Rattle.reqtable_answer.specs.Asks.{has_url, has_extra, ask_takes, may_be_taken, names_prerelease}
-use Rattle.reqtable_cases.specs.Lines.{marked}
+use Rattle.pep508_cases.specs.Sets.{marked}
 use Rattle.reqtable_cases.specs.Usable.{is_usable, members_asked, points_of, IsRangeOf}
 use Rattle.reqtable_search.specs.Told.{is_plain, is_told}
 use Rattle.reqtable_table.specs.declared.kept.TableLine.{TableLine}
 use Rattle.reqtable_table.specs.declared.table.Case.{Case}
 use Rattle.reqtable_table.specs.Kept.{KeptLine, KeptPackage, kept_front}
 use Rattle.reqtable_table.specs.Cases.{HasItsCases}
+use Rattle.reqtable_table.specs.Casing.{case_record}
 use Rattle.reqtable_table.specs.Counts.{tests_of}
 use Rattle.reqtable_table.specs.Answers.{kept_marks, kept_asked, is_asked, SameLine}
 
@@ -44,7 +45,7 @@ pub record AreApplying (marks : Marks) (kept : KeptPackage) : Type 0 where
 
 -- a case is that of the marked lines: it has their numbers, and its flag is that of what they require
 pub record IsCaseFor (marks : Marks) (lines : List KeptLine) (case : Case) : Type 0 where
-  pub numbers : case.lines.items ≡ map (λ line. line.number) (marked marks lines)
+  pub numbers : (case_record case).numbers ≡ map (λ line. line.number) (marked marks lines)
   pub prerelease : case.pre ≡ names_prerelease (case_asks marks lines)
 
 -- a test of lines with these results computes this predicate

@@ -9,6 +9,7 @@ use Rattle.pep440_specifier.specs.Matching.{SpecifierRecord}
 use Rattle.pep440_specifier_list.specs.Lists.{CountedRecord, IsInOrder}
 use Rattle.pep508_tree.specs.Tree.{Tree}
 use Rattle.pep508_tree.specs.Meaning.{NodeRecord}
+use Rattle.pep508_cases.specs.Cases.{Marks}
 use Rattle.pep508_marker_parser.specs.MarkerOutcome.{IsTreeOf}
 use Rattle.pep508_requirement_text.specs.FrontReading.{Source, Front}
 use Rattle.pep508_requirement_text.specs.FrontReading.Source.{Specifiers, Url}
@@ -28,8 +29,10 @@ pub record KeptLine : Type 0 where
   pub bounded : Bool
   pub specifiers : CountedRecord
 
--- a case of a package, by the numbers of its lines, and whether some specifier of them names a pre-release
+-- a case of a package: which of the lines it has, the numbers of these, a tree, and whether some specifier of
+-- these names a pre-release
 pub record KeptCase : Type 0 where
+  pub set : Marks
   pub numbers : List ℕ
   pub tree : Tree
   pub prerelease : Bool

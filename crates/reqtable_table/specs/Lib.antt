@@ -7,7 +7,6 @@ pub mod Building
 pub mod Counts
 pub mod Errors
 pub mod Standing
-pub mod Numbers
 pub mod Numbered
 pub mod Answers
 pub mod Choosing

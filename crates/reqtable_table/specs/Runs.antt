@@ -14,7 +14,7 @@ use Rattle.reqtable_answer.specs.Admission.{Admits, AnswersBy}
 use Rattle.reqtable_answer.specs.Asks.{is_candidate}
 use Rattle.reqtable_answer.specs.Rows.{IsTakenBelow}
 use Rattle.reqtable_answer.specs.declared.answer.Outcome.{Outcome}
-use Rattle.reqtable_cases.specs.Lines.{marked}
+use Rattle.pep508_cases.specs.Sets.{marked}
 use Rattle.reqtable_table.specs.Answers.{IsPlaceIn}
 use Rattle.reqtable_table.specs.Choosing.{case_asks, outcome_in_order}
 use Rattle.reqtable_table.specs.Kept.{KeptCase, KeptPackage}

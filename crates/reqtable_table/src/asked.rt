@@ -1,6 +1,6 @@
 //! The applicable lines of a package, and the case that they are.
 //!
-//! A case is found by its lines' numbers: cases are sorted by these, so a binary search finds the one that
+//! A case is found by the set of its lines: cases are sorted by these, so a binary search finds the one that
 //! applies, and no case's tree is looked at.
 
 ghost use Rattle.std.specs.Prelude.{◌≡◌, ◌<◌, ℕ, List, length, map, get_or, IfOk, OnOk};
@@ -11,7 +11,7 @@ ghost use Rattle.std.specs.Cmp.Lexicographic.{slice_cmp};
 ghost use Rattle.std.specs.Str.{bytes_eq};
 ghost use Rattle.pep508_tree.specs.Meaning.{IsTree};
 ghost use Rattle.reqtable_answer.specs.Asks.{has_extra};
-ghost use Rattle.reqtable_cases.specs.Lines.{marked};
+ghost use Rattle.pep508_cases.specs.Sets.{marked};
 ghost use Rattle.reqtable_marker_cache.specs.Known.{AreKnown};
 ghost use Rattle.reqtable_marker_cache.specs.Settings.{nodes_in, valuation_in};
 ghost use Rattle.reqtable_table.specs.Answers.{kept_marks, LiesIn};
@@ -19,17 +19,16 @@ ghost use Rattle.reqtable_table.specs.Cases.{HasItsCases};
 ghost use Rattle.reqtable_table.specs.Choosing.{case_asks, AreApplying, IsCaseFor};
 ghost use Rattle.reqtable_table.specs.Kept.{KeptCase};
 ghost use Rattle.reqtable_table.specs.KeptLines.{line_record, package_record};
-ghost use Rattle.reqtable_table.specs.Numbers.{numbers_cmp};
 ghost use Rattle.reqtable_table.specs.Standing.{HasItsLines};
 ghost use Rattle.reqtable_table.specs.declared.table.Case.{Case};
 
 use crate::kept::TableLine;
 use crate::table::Package;
+use pep508_cases::TreeSet;
 use pep508_name::ExtraName;
 use reqtable_answer::united_extras;
 use reqtable_marker_cache::{Known, Setting};
 use std::alloc::{AllocError, Global};
-use std::cmp::Ordering;
 
 /// Overwrites `marks` with one flag per line: whether the line applies.
 pub(crate) fn mark(
@@ -66,11 +65,11 @@ pub(crate) fn places_of(
         (map package_record packages.now) places.items) }
 {
     let mut marks = Vec::new(alloc);
-    let mut numbers = Vec::new(alloc);
+    let mut set = TreeSet::new(alloc);
     let mut places = Vec::with_capacity(alloc, packages.len())?;
     let mut known = Known::new(alloc, slots)?;
     for kept in packages {
-        let place = place_in(kept, setting, &mut known, &mut marks, &mut numbers)?;
+        let place = place_in(kept, setting, &mut known, &mut marks, &mut set)?;
         places.push(place)?;
     }
     Ok(places)
@@ -82,7 +81,7 @@ fn place_in(
     setting: &Setting<'_>,
     known: &mut Known,
     marks: &mut Vec<bool>,
-    numbers: &mut Vec<usize>,
+    set: &mut TreeSet,
 ) -> Result<Option<usize>, AllocError>
     requires lines { HasItsLines (package_record kept.now) }
     requires cases { HasItsCases (nodes_in setting.now) (package_record kept.now) }
@@ -95,7 +94,7 @@ fn place_in(
     if !marks.contains(&true) {
         return Ok(None);
     }
-    match place_of(kept, marks, numbers) {
+    match place_of(kept, marks, set) {
         Ok(place) => Ok(Some(place)),
         Err(error) => Err(error),
     }
@@ -136,11 +135,11 @@ fn lists_of<'a>(
 }
 
 /// The index of the case of the marked lines, which apply under some valuation while the others don't. Found
-/// by their numbers, which overwrite `numbers`, in as many steps as the logarithm of the cases.
+/// by their set, which overwrites `set`, in as many steps as the logarithm of the cases.
 pub(crate) fn place_of(
     kept: &Package,
     marks: &[bool],
-    numbers: &mut Vec<usize>,
+    set: &mut TreeSet,
 ) -> Result<usize, AllocError>
     requires lines { HasItsLines (package_record kept.now) }
     requires applying { AreApplying marks.now (package_record kept.now) }
@@ -152,49 +151,11 @@ pub(crate) fn place_of(
         IsCaseFor marks.now (map line_record kept.now.lines.items)
         (get_or kept.now.cases.items place other)) }
 {
-    number(numbers, &kept.lines, marks)?;
-    let wanted = numbers.as_slice();
-    let found = kept
-        .cases
-        .binary_search_by(|case| compare(&case.lines, wanted));
+    set.mark(marks)?;
+    let wanted = &*set;
+    let found = kept.cases.binary_search_by(|case| case.set.cmp(wanted));
     match found {
         Ok(place) => Ok(place),
         Err(_) => unreachable!(),
-    }
-}
-
-/// Overwrites `numbers` with the numbers of the marked lines.
-fn number(numbers: &mut Vec<usize>, lines: &[TableLine], marks: &[bool]) -> Result<(), AllocError>
-    requires { length marks.now ≡ length lines.now }
-    ensures { OnOk result
-        (numbers.new.items ≡ map (λ line. line.number) (marked marks.now lines.now)) }
-{
-    numbers.clear();
-    for (index, line) in lines.iter().enumerate() {
-        if marks[index] {
-            numbers.push(line.number)?;
-        }
-    }
-    Ok(())
-}
-
-/// The order of two cases by the numbers of their lines: at the first line in which they differ, the case
-/// that has it comes first.
-fn compare(numbers: &[usize], others: &[usize]) -> Ordering
-    ensures { result ≡ numbers_cmp numbers.now others.now }
-{
-    for (index, number) in numbers.iter().enumerate() {
-        let Some(other) = others.get(index) else {
-            return Ordering::Less;
-        };
-        let order = number.cmp(other);
-        if order.is_ne() {
-            return order;
-        }
-    }
-    if numbers.len() < others.len() {
-        Ordering::Greater
-    } else {
-        Ordering::Equal
     }
 }

@@ -7,6 +7,7 @@ ghost use Rattle.std.specs.Option.{option_map_or};
 ghost use Rattle.std.specs.Ordering.{nat_cmp};
 ghost use Rattle.reqtable_range.specs.Together.{lent};
 ghost use Rattle.reqtable_cases.specs.Usable.{IsRangeOf};
+ghost use Rattle.reqtable_table.specs.Casing.{case_record};
 ghost use Rattle.reqtable_table.specs.Kept.{kept_under};
 ghost use Rattle.reqtable_table.specs.KeptLines.{line_record, lent_lines};
 ghost use Rattle.reqtable_table.specs.Numbered.{lines_at, asks_at};
@@ -22,7 +23,7 @@ use version_ranges::Ranges;
 
 impl Table {
     /// The intersection of the ranges of the specifiers of a case's lines, the lines of a package that have
-    /// the numbers `case.lines`. `None` if one of these lines has a URL, `===`, or `<` or `>` with a
+    /// the numbers `case.lines(alloc)`. `None` if one of these lines has a URL, `===`, or `<` or `>` with a
     /// post-release, or if a number of a range can't be raised.
     ///
     /// Made anew by each call. A case of k lines with m specifiers needs O(m log m) comparisons of versions,
@@ -38,14 +39,15 @@ impl Table {
         name: &PackageName,
         case: &Case,
     ) -> Result<Option<Ranges<Version>>, AllocError>
-        ensures { IfOk result (IsRangeOf (asks_at case.now.lines.items (kept_under name.now self.now))) }
+        ensures { IfOk result (IsRangeOf (asks_at (case_record case.now).numbers (kept_under name.now self.now))) }
     {
+        let numbers = case.lines(alloc)?;
         let found = self
             .packages
             .binary_search_by(|package| package.name.cmp(name));
         match found {
-            Ok(place) => range_at(alloc, &self.packages[place].lines, &case.lines),
-            Err(_) => range_at(alloc, &[], &case.lines),
+            Ok(place) => range_at(alloc, &self.packages[place].lines, &numbers),
+            Err(_) => range_at(alloc, &[], &numbers),
         }
     }
 }

@@ -8,7 +8,7 @@ ghost use Rattle.pep440_range.specs.Agreement.{IsSaid};
 ghost use Rattle.reqtable_candidates.specs.Ordered.{placed_seen};
 ghost use Rattle.reqtable_answer.specs.Admission.{Admits, AnswersBy};
 ghost use Rattle.reqtable_answer.specs.Asks.{specifiers_of, ask_takes, may_be_taken, names_prerelease};
-ghost use Rattle.reqtable_cases.specs.Lines.{marked};
+ghost use Rattle.pep508_cases.specs.Sets.{marked};
 ghost use Rattle.reqtable_cases.specs.Usable.{members_asked, IsRangeOf};
 ghost use Rattle.reqtable_table.specs.Answers.{most_tests, SameLine};
 ghost use Rattle.reqtable_table.specs.Choosing.{case_asks, tests_at, AskedMore, Tells, TestsBy};

@@ -32,18 +32,24 @@ fn push_line(text: &mut String, line: TableLine) -> Result<(), AllocError> {
 
 /// Appends the numbers of a case's lines, whether the case always is, and whether a specifier names a
 /// pre-release.
-fn push_case(text: &mut String, case: Case) -> Result<(), AllocError> {
-    let Case { lines, tree, pre } = case;
+fn push_case(alloc: Global, text: &mut String, case: Case) -> Result<(), AllocError> {
+    let lines = case.lines(alloc)?;
+    let Case {
+        set: _,
+        numbers: _,
+        tree,
+        pre,
+    } = case;
     let always = tree.is_true();
     write!(text, "; {lines:?} {always} {pre}")?;
     Ok(())
 }
 
-fn push_package(text: &mut String, package: Package) -> Result<(), AllocError> {
+fn push_package(alloc: Global, text: &mut String, package: Package) -> Result<(), AllocError> {
     let Package { name, cases, lines } = package;
     write!(text, "{name}")?;
     for case in cases {
-        push_case(text, case)?;
+        push_case(alloc, text, case)?;
     }
     for line in lines {
         push_line(text, line)?;
@@ -56,7 +62,7 @@ fn shown(alloc: Global, table: Table) -> Result<String, AllocError> {
     let Table { packages, slots } = table;
     let mut text = String::new(alloc);
     for package in packages {
-        push_package(&mut text, package)?;
+        push_package(alloc, &mut text, package)?;
     }
     write!(&mut text, "{slots}")?;
     Ok(text)

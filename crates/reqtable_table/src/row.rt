@@ -10,7 +10,7 @@ ghost use Rattle.pep440_range.specs.Agreement.{IsSaid};
 ghost use Rattle.reqtable_candidates.specs.Ordered.{placed_seen};
 ghost use Rattle.reqtable_answer.specs.Admission.{Admits, AnswersBy};
 ghost use Rattle.reqtable_answer.specs.Rows.{row_seen, IsTakenBelow};
-ghost use Rattle.reqtable_cases.specs.Lines.{marked};
+ghost use Rattle.pep508_cases.specs.Sets.{marked};
 ghost use Rattle.reqtable_marker_cache.specs.Known.{AreKnown};
 ghost use Rattle.reqtable_marker_cache.specs.Settings.{nodes_in, valuation_in};
 ghost use Rattle.reqtable_table.specs.Answers.{kept_asked, most_tests, most_tests_in, most_tests_of};
@@ -32,6 +32,7 @@ use crate::kept::TableLine;
 use crate::runs::Told;
 use crate::table::{Case, Package};
 use pep440_version::Version;
+use pep508_cases::TreeSet;
 use reqtable_answer::{Admission, Outcome, Row};
 use reqtable_candidates::Ordered;
 use reqtable_marker_cache::{Known, Setting};
@@ -181,8 +182,8 @@ fn row_of<F: Fn(&Version, bool) -> bool>(
     if !marks.contains(&true) {
         return Ok(None);
     }
-    let mut numbers = Vec::new(alloc);
-    let place = place_of(kept, &marks, &mut numbers)?;
+    let mut set = TreeSet::new(alloc);
+    let place = place_of(kept, &marks, &mut set)?;
     let name = kept.name.try_clone(alloc)?;
     let extras = extras_of(alloc, &kept.lines, &marks)?;
     match outcome_in(alloc, kept, &marks, place, own, told, admission) {
@@ -308,7 +309,8 @@ fn outcome<F: Fn(&Version, bool) -> bool>(
     if own.len() == 0 {
         return Ok(Outcome::Nothing);
     }
-    let range = range_at(alloc, lines, &case.lines)?;
+    let numbers = case.lines(alloc)?;
+    let range = range_at(alloc, lines, &numbers)?;
     match chosen(alloc, lines, marks, &range, case.pre, own, admission) {
         Ok(Some(place)) => Ok(Outcome::Taken(place)),
         Ok(None) => Ok(Outcome::Nothing),

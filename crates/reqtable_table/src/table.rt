@@ -2,8 +2,9 @@
 //!
 //! A table consumes the requirements and keeps no second copy: the lines are moved out, sorted by name, and
 //! cut into packages. What a package has to keep (`HasItsCases`) speaks of the interner's nodes as they
-//! are, and lasts while nodes are added. A case names its lines by their numbers, and whether one of their
-//! specifiers has a pre-release is stored with it. Its range is made when the case is asked (`range`), since
+//! are, and lasts while nodes are added. A case has the set of its lines, by its runs, so that many cases of
+//! many lines take little memory; all cases of a package share the lines' numbers. Whether a specifier of its
+//! lines names a pre-release is stored with it. Its range is made when the case is asked (`range`), since
 //! most cases of many lines never are. The test of `fields` takes a table apart, so that one more copy is
 //! seen.
 
@@ -30,7 +31,7 @@ use crate::casing::{cases_of, markers};
 use crate::kept::{TableLine, kept_lines};
 use crate::room::Room;
 use pep440_specifier::laws::a_read_specifier_is_built;
-use pep508_cases::{CasesError, LastCases};
+use pep508_cases::{CasesError, LastCases, TreeSet};
 use pep508_name::PackageName;
 use pep508_tree::{Interner, MarkerTree};
 use reqtable_groups::{Group, grouped};
@@ -40,19 +41,36 @@ use std::alloc::{AllocError, AllocFailed, Global};
 use std::error::Error;
 use std::fmt;
 use std::marker::Model;
+use std::rc::Rc;
 
 /// A set of a package's lines which all apply under some valuation of markers, while the package's other
 /// lines don't.
 #[derive(Drop)]
 pub struct Case {
-    /// The numbers of the lines in their text, in rising order.
-    pub lines: Vec<usize>,
+    /// Which of the package's lines they are.
+    pub(crate) set: TreeSet,
+    /// The numbers of all lines of the package, which its cases share.
+    pub(crate) numbers: Rc<Vec<usize>>,
     /// A tree of the interner that the table was built with, which holds exactly where just these lines
     /// apply.
     pub tree: MarkerTree,
     /// Whether a specifier of these lines names a pre-release or developmental release (PEP 440, "Handling of
     /// pre-releases").
     pub pre: bool,
+}
+
+impl Case {
+    /// The numbers of the lines in their text, in rising order. Made anew by each call, in time and memory
+    /// linear in them.
+    ///
+    /// # Errors
+    ///
+    /// `AllocError` when memory runs out.
+    pub fn lines(&self, alloc: Global) -> Result<Vec<usize>, AllocError>
+        ensures { IfOk result (λ lines. lines.items ≡ (case_record self.now).numbers) }
+    {
+        self.set.select(alloc, self.numbers.as_ref().as_slice())
+    }
 }
 
 /// A package that some line names, with its lines and their cases.
@@ -132,9 +150,10 @@ impl Table {
     ///
     /// The cases of each package are found by one diagram of its lines' markers (`tree_cases`), or are those
     /// of the package before it by name where its lines have the same markers in the same order. n lines of a
-    /// package need at most `2 * n * limit` conjunctions. In addition the lines are sorted by name, and each
-    /// case has the numbers of its lines. No case has a range yet: that is made when the case is asked. The
-    /// table keeps what it needs of the requirements, without a second copy.
+    /// package need at most `2 * n * limit` conjunctions. In addition the lines are sorted by name. A case
+    /// takes time and memory for the runs of its lines, parts of the package's list that are in it or not in
+    /// turn, and not for each line. No case has a range yet: that is made when the case is asked. The table
+    /// keeps what it needs of the requirements, without a second copy.
     ///
     /// # Errors
     ///

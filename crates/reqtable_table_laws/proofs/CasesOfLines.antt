@@ -21,7 +21,8 @@ use Rattle.reqtable_answer.specs.Asks.{specifiers_of, has_url, is_of}
 use Rattle.reqtable_answer.proofs.Tests.{any_zip, same_bytes}
 use Rattle.reqtable_requirements.specs.Asks.{lines_of}
 use Rattle.reqtable_requirements.specs.LineReading.{LineRecord}
-use Rattle.reqtable_cases.specs.Lines.{marked, numbers_of, asked_by, is_named}
+use Rattle.pep508_cases.specs.Sets.{marked}
+use Rattle.reqtable_cases.specs.Lines.{numbers_of, asked_by, is_named}
 use Rattle.reqtable_cases.specs.Usable.{members_asked, is_ranged, is_usable, points_of, IsRangeOf}
 use Rattle.reqtable_table.specs.Kept.{KeptLine, KeptCase, KeptPackage, Keeps, KeepsAll, names_in, kept_under, kept_front}
 use Rattle.reqtable_table.specs.Cases.{IsCaseOf, HasItsCases, IsCaseOfLines, AreCasesOf, cases_under}

@@ -14,7 +14,8 @@ use Rattle.pep508_cases.proofs.Marks.{marks_is}
 use Rattle.reqtable_answer.specs.Asks.{names_prerelease}
 use Rattle.reqtable_requirements.specs.Asks.{applies}
 use Rattle.reqtable_requirements.specs.LineReading.{LineRecord}
-use Rattle.reqtable_cases.specs.Lines.{marked, line_marks, numbers_of, asked_by}
+use Rattle.pep508_cases.specs.Sets.{marked}
+use Rattle.reqtable_cases.specs.Lines.{line_marks, numbers_of, asked_by}
 use Rattle.reqtable_table.specs.Cases.{IsCaseOfLines, AreCasesOf, IsRenumbered, SameCase}
 use Rattle.reqtable_table.specs.Kept.{KeptCase}
 use Rattle.reqtable_table.proofs.Marking.{marked_map}
@@ -102,7 +103,7 @@ renumbered : List LineRecord → List KeptCase → List (Marks × Tree) → List
 renumbered others [] sets = []
 renumbered others (case ∷ cases) [] = []
 renumbered others (case ∷ cases) (set ∷ sets) =
-    record { numbers = numbers_of set.0 others; tree = case.tree; prerelease = case.prerelease }
+    record { set = case.set; numbers = numbers_of set.0 others; tree = case.tree; prerelease = case.prerelease }
     ∷ renumbered others cases sets
 
 module _ (lines others : List LineRecord) (alike : AllZip IsRenumbered lines others) where

@@ -161,14 +161,14 @@ fn cases_shown(alloc: Global, lines: &str, name: &str, limit: u64) -> Result<Str
 fn cases_of(alloc: Global, table: &Table, name: &str) -> Result<String, AllocError> {
     let name = PackageName::from_str(alloc, name).or(Err(AllocError))?;
     let mut text = String::new(alloc);
-    push_cases(&mut text, table.cases(&name).unwrap_or(&[]))?;
+    push_cases(alloc, &mut text, table.cases(&name).unwrap_or(&[]))?;
     Ok(text)
 }
 
-fn push_cases(text: &mut String, cases: &[Case]) -> Result<(), AllocError> {
+fn push_cases(alloc: Global, text: &mut String, cases: &[Case]) -> Result<(), AllocError> {
     for case in cases {
         let pre = if case.pre { " pre " } else { "" };
-        write!(text, "{:?}{pre}", case.lines)?;
+        write!(text, "{:?}{pre}", case.lines(alloc)?)?;
     }
     Ok(())
 }
@@ -241,7 +241,7 @@ fn ranges_of(alloc: Global, table: &Table, name: &str) -> Result<String, AllocEr
             Some(range) => sign_of(range.contains(&version)),
             None => "?",
         };
-        write!(text, "{:?}{sign}", case.lines)?;
+        write!(text, "{:?}{sign}", case.lines(alloc)?)?;
     }
     Ok(text)
 }

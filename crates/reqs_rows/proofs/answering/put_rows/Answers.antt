@@ -1,4 +1,4 @@
-use Rattle.std.proofs.Common.{◌∙◌, ◌<◌, ◌+◌, [], List, ℕ, Option, None, length, get_or, take, sym, subst, arith}
+use Rattle.std.proofs.Common.{◌<◌, ◌+◌, [], List, ℕ, Option, None, length, get_or, take, sym, subst, arith}
 use Rattle.std.proofs.lemmas.List.{take_all}
 use Rattle.std.specs.List.{AllZip}
 use Rattle.reqtable_table.specs.Answers.{LiesIn, SamePackage}

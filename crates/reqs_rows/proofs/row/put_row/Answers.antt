@@ -1,4 +1,4 @@
-use Rattle.std.proofs.Common.{◌≡◌, ◌∙◌, ◌<◌, ◌∷◌, [], Some, None, option_map, length, get_or, ap, sym, subst, refl, append-nil}
+use Rattle.std.proofs.Common.{◌∙◌, ◌<◌, ◌∷◌, [], Some, None, option_map, length, get_or, ap, sym, subst, refl, append-nil}
 use Rattle.std.proofs.Common.{arith, true≢false}
 use Rattle.std.proofs.lemmas.Result.{on_ok_weaker}
 use Rattle.std.specs.Vec.{with_item}

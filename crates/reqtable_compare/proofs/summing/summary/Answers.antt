@@ -10,9 +10,9 @@ pub returns : goal.returns
 returns c =
     let lines = c.args.lines.now in
     let lists = c.in_ok-lists.lists.items in
-    let are = c.in_ok-lists.ensures ∙ ap (map (extras_at lines)) c.deref.ensures.value in
+    let are = c.in_ok-lists.ensures ∙ ap (map (extras_at lines)) (c.deref.ensures.value ∙ c.in_ok-numbers.ensures) in
     record {
-      some = c.has_some.ensures ∙ ap some_numbers c.deref-3.ensures.value;
+      some = c.has_some.ensures ∙ ap some_numbers (c.deref-3.ensures.value ∙ c.in_ok-numbers.ensures);
       rising = c.in_ok-extras.ensures.rise;
       extras = λ e. c.in_ok-extras.ensures.are e
           ∙ ap (list_any (λ l. list_any (bytes_eq e) l.now)) c.deref-2.ensures.value

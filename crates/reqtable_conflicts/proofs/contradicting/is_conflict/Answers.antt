@@ -16,13 +16,13 @@ pub returns-in-Some : goal.returns-in-Some
 returns-in-Some c =
     let lines = kept_under c.args.name.now c.args.table.now in
     has_none lines (case_record c.args.case.now) c.in-Some.range c.holds_nothing.result (search rules)
-    (subst (IsRangeOf (asks_at c.args.case.now.lines.items lines)) c.in-Some.is c.in_ok-range.ensures)
+    (subst (IsRangeOf (asks_at (case_record c.args.case.now).numbers lines)) c.in-Some.is c.in_ok-range.ensures)
     c.holds_nothing.ensures
 
-pub returns-in-None : goal.returns-in-None
-returns-in-None c =
+pub returns : goal.returns
+returns c =
     let lines = kept_under c.args.name.now c.args.table.now in (
       λ t. absurd (true≢false (sym t)),
       λ h. absurd (none_usable lines (case_record c.args.case.now)
-          (subst (IsRangeOf (asks_at c.args.case.now.lines.items lines)) c.in-None.is c.in_ok-range.ensures) h),
+          (subst (IsRangeOf (asks_at (case_record c.args.case.now).numbers lines)) c.in-None.is c.in_ok-range.ensures) h),
     )

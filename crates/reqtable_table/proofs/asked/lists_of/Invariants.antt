@@ -1,5 +1,5 @@
 use Rattle.std.proofs.Common.{◌≡◌, map, take}
-use Rattle.reqtable_cases.specs.Lines.{marked}
+use Rattle.pep508_cases.specs.Sets.{marked}
 use Rattle.reqtable_table.proofs.asked.lists_of.Given as goal
 
 abbrev pub invariant-loop-index : goal.invariant-loop-index

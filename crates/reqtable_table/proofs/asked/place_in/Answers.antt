@@ -2,7 +2,7 @@ use Rattle.std.proofs.Common.{◌≡◌, ◌∙◌, ◌<◌, Bool, true, false, 
 use mathlib.Core.Bool.{beq}
 use Rattle.std.proofs.lemmas.List.{length-map}
 use Rattle.std.specs.List.{list_any}
-use Rattle.reqtable_cases.specs.Lines.{marked}
+use Rattle.pep508_cases.specs.Sets.{marked}
 use Rattle.reqtable_table.specs.Answers.{kept_marks}
 use Rattle.reqtable_table.specs.Casing.{case_record}
 use Rattle.reqtable_marker_cache.specs.Settings.{nodes_in, valuation_in}

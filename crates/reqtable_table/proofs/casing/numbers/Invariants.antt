@@ -1,6 +1,5 @@
 use Rattle.std.proofs.Common.{◌≡◌, map, take}
-use Rattle.reqtable_table.specs.Casing.{lent_given}
 use Rattle.reqtable_table.proofs.casing.numbers.Given as goal
 
 abbrev pub invariant-loop-line : goal.invariant-loop-line
-invariant-loop-line l = l.numbers.items ≡ map (λ line. line.number) (lent_given (take l.line-index l.lines))
+invariant-loop-line l = l.numbers.items ≡ map (λ line. line.number) (take l.line-index l.lines)

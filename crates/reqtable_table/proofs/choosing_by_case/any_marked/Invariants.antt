@@ -1,6 +1,6 @@
 use Rattle.std.proofs.Common.{◌≡◌, Bool, false, take}
 use Rattle.std.specs.List.{list_any}
-use Rattle.reqtable_cases.specs.Lines.{marked}
+use Rattle.pep508_cases.specs.Sets.{marked}
 use Rattle.reqtable_table.specs.declared.kept.TableLine.{TableLine}
 use Rattle.reqtable_table.specs.Choosing.{TestsBy}
 use Rattle.reqtable_table.proofs.choosing_by_case.any_marked.Given as goal

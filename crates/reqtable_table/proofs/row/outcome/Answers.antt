@@ -36,7 +36,10 @@ returns-then-len-eq0-clause-kept g c = same_all (records c.args.lines.now)
 pub chosen-requires-clause-range : goal.chosen-requires-clause-range
 chosen-requires-clause-range g c =
     range_marked c.args.marks.now (records c.args.lines.now) c.deref.result.now c.in_ok-range.range c.requires.rising
-    (c.deref.ensures.value ∙ c.requires.asked.numbers) c.in_ok-range.ensures
+    (c.deref.ensures.value ∙ c.in_ok-numbers.ensures ∙ c.requires.asked.numbers) c.in_ok-range.ensures
+
+pub returns-in_err-numbers-clause-kept : goal.returns-in_err-numbers-clause-kept
+returns-in_err-numbers-clause-kept g c = same_all (records c.args.lines.now)
 
 pub returns-in_err-range-clause-kept : goal.returns-in_err-range-clause-kept
 returns-in_err-range-clause-kept g c = same_all (records c.args.lines.now)

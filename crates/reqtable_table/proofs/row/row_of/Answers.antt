@@ -8,7 +8,7 @@ use Rattle.pep508_tree.specs.Meaning.{NodeRecord}
 use Rattle.pep508_cases.specs.Cases.{Marks}
 use Rattle.reqtable_candidates.specs.Ordered.{placed_seen}
 use Rattle.reqtable_answer.specs.Asks.{has_extra}
-use Rattle.reqtable_cases.specs.Lines.{marked}
+use Rattle.pep508_cases.specs.Sets.{marked}
 use Rattle.reqtable_table.specs.Answers.{kept_marks, kept_asked, IsPlaceIn}
 use Rattle.reqtable_table.specs.Casing.{case_record}
 use Rattle.reqtable_table.specs.Choosing.{case_asks, outcome_in_order}

@@ -6,11 +6,11 @@ use Rattle.pep508_tree.specs.Meaning.{IsTree}
 use Rattle.pep508_cases.specs.Cases.{AreCases, marks_of}
 use Rattle.pep508_cases.specs.Seen.{case_seen, cases_seen}
 use Rattle.reqtable_groups.specs.declared.given.Given.{Given}
-use Rattle.reqtable_table.specs.Casing.{case_record, HaveMarks, IsCaseOfGiven}
+use Rattle.reqtable_table.specs.Casing.{case_record, IsCaseOfGiven}
 use Rattle.reqtable_table.specs.Building.{most_cases}
 use Rattle.reqtable_table.specs.KeptLines.{package_record}
 use Rattle.reqtable_table.proofs.Rooms.{most_at_most, fewer_conjunctions}
-use Rattle.reqtable_table.proofs.Packages.{given_trees, have_marks, has_its_cases, as_long}
+use Rattle.reqtable_table.proofs.Packages.{given_trees, has_its_cases, as_long}
 use Rattle.reqtable_table.proofs.table.package_of.Goals as goal
 
 abbrev markers : List Given → List Tree
@@ -22,17 +22,6 @@ find-requires-clause-trees c =
     let trees : c.in_ok-trees.trees.items ≡ markers lines = c.in_ok-trees.ensures ∙ ap markers c.deref.ensures.value in
     subst (AllByRecursion (IsTree c.args.interner.now.nodes)) (sym trees)
     (given_trees c.args.interner.now.nodes lines c.requires.trees)
-
-pub cases_of-requires : goal.cases_of-requires
-cases_of-requires c =
-    let lines = c.args.group.lines.items in
-    let old = c.args.interner.now.nodes in
-    let trees = c.in_ok-trees.trees.items in
-    let same : trees ≡ markers lines = c.in_ok-trees.ensures ∙ ap markers c.deref.ensures.value in
-    subst (λ sets. AllByRecursion (HaveMarks (length c.deref-2.result.now)) (cases_seen sets)) (sym c.cases.ensures)
-    (have_marks old c.find.new.interner.nodes trees (length c.deref-2.result.now) (cases_seen c.find.new.self.cases.items)
-    (ap length same ∙ length-map lines (λ (line : Given). line.marker) ∙ sym (ap length c.deref-2.ensures.value))
-    c.in-Ok.ensures.cases.each)
 
 pub returns-clause-made : goal.returns-clause-made
 returns-clause-made c =

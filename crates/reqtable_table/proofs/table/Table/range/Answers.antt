@@ -43,11 +43,11 @@ returns-in-Ok c =
     let lines = ap (map line_record) c.deref-in-Ok.ensures.value
     ∙ sym (lines_found table place kept name rising c.in-Ok.ensures.bound is equal)
     ∙ ap (λ l. kept_under name (map package_record l)) same ∙ ap (kept_under name) c.self.view_is in
-    let numbers = c.deref-in-Ok-2.ensures.value in
+    let numbers = c.deref-in-Ok-2.ensures.value ∙ c.in_ok-numbers.ensures in
     subst (λ asks. IfOk c.range_at.result (IsRangeOf asks)) (λ i. asks_at (numbers i) (lines i)) c.range_at.ensures
 
-pub returns-in-Err : goal.returns-in-Err
-returns-in-Err c =
+pub returns : goal.returns
+returns c =
     let table = c.deref.result.now in
     let name = c.args.name.now in
     let same = c.deref.ensures.value in
@@ -55,5 +55,5 @@ returns-in-Err c =
     let parted = c.in-Err.ensures.position (λ kept. name_cmp kept.name name) (always_returns_same _ _ _ (λ a r f k. search rules)) in
     let lines = sym (no_lines table c.in-Err.field-0 name (parted (searchable table name rising)))
     ∙ ap (λ l. kept_under name (map package_record l)) same ∙ ap (kept_under name) c.self.view_is in
-    let numbers = c.deref-in-Err.ensures.value in
+    let numbers = c.deref-in-Err.ensures.value ∙ c.in_ok-numbers.ensures in
     subst (λ asks. IfOk c.range_at-in-Err.result (IsRangeOf asks)) (λ i. asks_at (numbers i) (lines i)) c.range_at-in-Err.ensures
