@@ -85,7 +85,7 @@ def candidates():
     for found in importlib.metadata.distributions():
         try:
             name, version = found.metadata["Name"], found.version
-        except (AttributeError, KeyError, TypeError):
+        except (AttributeError, KeyError, TypeError, ValueError, OSError):
             name, version = None, None  # its metadata can't be read
         key = re.sub("[-_.]+", "-", str(name)).lower()
         if key in lines:

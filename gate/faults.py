@@ -59,15 +59,16 @@ class Fault:
 
 OF_TEXTS, OF_PROOFS, FIT = "texts", "proofs", "--fit"
 PROVE, WRONG, HELD, NAMES = ["gate/prove.py"], ["gate/wrong.py"], ["gate/held.py"], ["gate/names.py"]
-LENT, CONSTANTS, FITS = ["gate/lent.py"], ["gate/constants.py"], [*WRONG, "--texts"]
+ASKED, LENT, CONSTANTS, FITS = ["gate/asked.py"], ["gate/lent.py"], ["gate/constants.py"], [*WRONG, "--texts"]
 MUTANTS, FIGURES = ["gate/mutants.py", "--listed"], ["bench/figures.py", "--check"]
+LAYOUT = ["gate/layout.py"]
 FILES, VERSIONS = ["tools/files.py", "--check"], ["gate/versions.py"]
 PACK = [*PROVE, "--program", "reqs_c"]
 PROGRAM = os.path.join("crates", "reqs_cli", "out", "reqs_cli")
 DOCUMENTED = ["tests/documented.py", os.path.join(TOP, PROGRAM)]
 SIZES = ["tests/sizes.py", "reqs", "packages"]
 # The parts that prove nothing, and leave nothing in the tree.
-TEXTS = (HELD, MUTANTS, NAMES, LENT, CONSTANTS, FITS, FIGURES, FILES, VERSIONS, DOCUMENTED, SIZES)
+TEXTS = (LAYOUT, HELD, MUTANTS, NAMES, ASKED, LENT, CONSTANTS, FITS, FIGURES, FILES, VERSIONS, DOCUMENTED, SIZES)
 PYTHON_TESTS = "python/tests/test_specifiers.py"
 SPECIFIERS = "crates/reqs_c_versions/specs/Specifiers.antt"
 UNNOTICED = "reqs_c_versions.Specifiers.AreTaken: drop field is_list ="
@@ -115,10 +116,28 @@ FAULTS = [
     Fault("a definition by the code's own table", None, CONSTANTS,
           "crates/reqs_io_faults/specs/Inputs.antt", "use Rattle.reqs_io.specs.Front.",
           "use Rattle.reqs_io.specs.declared.TheConstants.{INPUT_LIMIT}\nuse Rattle.reqs_io.specs.Front."),
+    Fault("lemmas in a file that is named as a function's own proof", None, LAYOUT, "crates/reqtable_normal/proofs/Lib.antt",
+          "pub mod SameAnswers\n", "pub mod SameAnswers\npub mod Answers\n"),
+    Fault("a clause by the code's own number", None, CONSTANTS, f"{LOW}/src/lib.rt",
+          "    ensures { result ≡ columns text.now }\n", "    ensures { result ≤ MOST_COLUMNS }\n"),
     Fault("a definition without one of its fields", None, HELD, SPECIFIERS,
           "  pub is_list : IsListIn bytes members\n  pub is_text : text ≡ map", "  pub is_text : text ≡ map"),
     Fault("a definition with another's name", None, HELD, SPECIFIERS,
           "Rattle.reqs_c_versions.specs.Versions.{version_in}", "Rattle.pep508_environment.specs.EnvironmentValues.{version_in}"),
+    Fault("a definition whose words stand in a comment", None, HELD, f"{LOW}/specs/Underline.antt",
+          "columns text = sum_by char_columns (chars text)\n",
+          "columns text--it = zero {-\n  = sum_by char_columns (chars text)\n  -- -}\n"),
+    Fault("a clause whose words stand in a comment", None, HELD, "crates/pep508_name/src/laws.rt",
+          "    ensures { (a b : List ℕ) → IsTrue (name_eq a b) ↔ (a ≡ b) }\n",
+          "    ensures {\n        (a b//it : List ℕ) → Unit {0} {-\n        : List ℕ) → IsTrue (name_eq a b) ↔ (a ≡ b) // -}\n    }\n"),
+    Fault("a clause that is read as a body", None, HELD, "crates/reqs_command/src/words.rt",
+          "    requires { F.IsAlwaysCallable fill }\n{\n    let mut size = FIRST_SIZE;",
+          f"    requires {{ F.IsAlwaysCallable fill }}\n    requires {'n' * 120} {{ 1 ≡ 2 }}\n    ensures {{ 1 ≡ 1 }}\n{{\n"
+          "    let mut size = FIRST_SIZE;"),
+    Fault("functions that may wait without end", None, HELD, "HANDLES", "none", "Wait"),
+    Fault("definitions that are passed on under each other's names", None, HELD, "crates/pep508_rs/specs/Lib.antt",
+          "evaluation.specs.Edges as WarnedEdges\npub use Rattle.pep508_view.specs.Edges as ShownEdges\n",
+          "evaluation.specs.Edges as ShownEdges\npub use Rattle.pep508_view.specs.Edges as WarnedEdges\n"),
     Fault("a definition whose mutants weren't tried as it stands", None, MUTANTS, SPECIFIERS,
           "  pub is_list : IsListIn bytes members\n  pub is_text : text ≡ map", "  pub is_text : text ≡ map"),
     Fault("a mutant that nothing notices, for no reason", None, MUTANTS,
@@ -127,6 +146,8 @@ FAULTS = [
           "        ensures grown { result ≡ Err errors.Memory → version_reading text.now ≢ Err NoLeadingNumber }\n", ""),
     Fault("a claim of README.md that says more", None, HELD, "README.md",
           "Every function is proved safe (", "Every function and the toolchain are proved safe ("),
+    Fault("a promise that is weaker", None, HELD, "docs/PROMISES.md", "extras and candidate text of the written grammars, `check`",
+          "extras and candidate text of the written grammars that is short, `check`"),
     Fault("another figure in README.md", None, FIGURES, "README.md", "\nOn slow cores (", "\nOn slow cores (1"),
     Fault("a figure in README.md that nobody measured", None, FIGURES,
           "README.md", "`./try` is the toolchain's unproved run", "`./try`, 30 times as fast as `./reqs`, is the toolchain's unproved run"),
@@ -142,6 +163,16 @@ FAULTS = [
     Fault("a file of tests that is deleted", None, NAMES, PYTHON_TESTS, "", None),
     Fault("an assertion that can't fail", None, NAMES, PYTHON_TESTS,
           "self.assertEqual(list(SpecifierSet(text).filter(VERSIONS, prereleases=True)), taken.split(), text)", "self.assertTrue(True)"),
+    Fault("a test that passes where it fails", None, NAMES, "crates/pep508_url_tests/src/urls.rt",
+          "#[test]\nfn keeps_variables(", "#[test]\n#[should_panic]\nfn keeps_variables("),
+    Fault("a test that returns before it asserts", None, NAMES, "crates/pep508_url_tests/src/urls.rt",
+          "    let vars = variables(rt.alloc())?;\n    assert_eq!(rt; vars.project_root()",
+          "    let vars = variables(rt.alloc())?;\n    return Ok(());\n    assert_eq!(rt; vars.project_root()"),
+    Fault("an assertion beside what is true", None, NAMES, "crates/pep508_url_tests/src/urls.rt",
+          "assert!(rt; Scheme::File.is_file() && ", "assert!(rt; true || Scheme::File.is_file() && "),
+    Fault("tests of a class that nothing runs", None, NAMES, PYTHON_TESTS, "class Taking(unittest.TestCase)", "class Taking(object)"),
+    Fault("a test that is skipped", None, NAMES, PYTHON_TESTS,
+          "sys.version_info < (3, 10), \"match is", "sys.version_info < (4, 10), \"match is"),
     Fault("a lent call that is passed on", None, LENT,
           "crates/pep508_rs/src/lib.rt", "{Interner, MarkerTree}", "{Interner, MarkerTree, uncounted_conjunction}"),
     Fault("a matrix that keeps a copy of its requirements", None, LENT,
@@ -151,7 +182,16 @@ FAULTS = [
           "let table = table_of(alloc, copy, interner, request.limit, request.bounds)?;"),
     Fault("a list of files that lacks one", None, FILES, "docs/FILES.md", "- `gate/floors.py`: ", "- `gate/floor.py`: "),
     Fault("a crate of another version", None, VERSIONS, "rust/fowlyore/Cargo.toml", '\nversion = "', '\nversion = "1'),
+    Fault("packages that lack a call", None, VERSIONS, "include/reqs.h", "\nreqs_reply reqs_covers(", "\nreqs_reply reqs_uncovers("),
+    Fault("packages that lack a name", None, VERSIONS, "python/fowlyore/__init__.py", '    "Covering",\n', '    "Covering",\n    "Uncovering",\n'),
     Fault("a library for C that isn't packed", "reqs_c", PACK, "tools/pack.sh", "set -eu\n", "exit 1\n"),
+    Fault("an edit in place of another, that stands there already", None, ASKED,
+          "tests/wrong/pep440_operator/less_becomes_greater.edit", "",
+          "file: src/operator.rt\nold:             Operator::LessThanEqual => write!(f, \"<=\"),\n"
+          "new:             Operator::LessThanEqual => write!(f, \"<\"),\n"),
+    Fault("a control of the right text in brackets", None, ASKED, "tests/wrong/pep440_operator/not_equal_has_no_star.edit",
+          "control:         matches!(self, Operator::NotEqualStar | Operator::EqualStar)",
+          "control:         { matches!(self, Operator::EqualStar | Operator::NotEqualStar) }"),
     Fault("no edits", None, FITS, "tests/wrong/gate.txt", "", ""),
     Fault("an edit of gate.txt that is deleted", None, FITS, "tests/wrong/underline/marks_are_the_blanks.edit", "", None),
     Fault("what isn't tried and isn't told", None, NAMES, "tests/python.sh", 'echo "not tried: the types', 'true "not tried: the types'),

@@ -1,8 +1,9 @@
 """Least counts, under which the questions, the stored runs and the commands with memory refused may not fall.
 
-tests/least.txt has them; whoever adds some raises its count. A crate that answers questions without one fails. So
+tests/least.txt has them; whoever adds some raises its count. What stands there twice counts once, so of wrong edits too; and a
+control counts that says more than the right text in brackets. A crate that answers questions without one fails. So
 does a question whose answer is `no question`, a kind of question that the head of the crate's `lib.rt` doesn't list,
-and a kind there that the crate isn't asked.
+and a kind there that the crate isn't asked. Counts under names of parts are of what these pass (gate.py).
 """
 
 import json
@@ -11,7 +12,9 @@ import re
 import sys
 import tempfile
 
-from crates import TOP
+import gate
+from crates import TOP, Crates
+from edits import edits_of, pairs_of
 
 sys.path.insert(0, os.path.join(TOP, "tests"))
 import documented
@@ -20,6 +23,10 @@ import numerals
 import objects
 import refused
 import sizes
+
+# What a text may have more than another and be of its shape all the same.
+IDLE = re.compile(r"//.*|/\*.*?\*/|[\s(){};,]")
+
 
 def read(*path):
     with open(os.path.join(TOP, *path), encoding="utf-8") as file:
@@ -45,12 +52,29 @@ def faults_of(name, questions, told):
         yield f"crates/{name}/src/lib.rt lists questions `{kind}` that {name} isn't asked"
 
 
+def shape(text):
+    return IDLE.sub("", text)
+
+
+def edits():
+    """The wrong edits, each once, by what they put for what; and those whose control says more than the right text in brackets."""
+    pairs = [(name, pairs_of(it.content.decode(errors="replace"))) for name, crate in Crates().items()
+             for it in edits_of(crate)[0].values() if not it.why]
+    wrong = {(name, *((it.file, *it.old.split(), "", *it.new.split()) for it in of)) for name, of in pairs}
+    controls = [of for _, of in pairs if any(it.control is not None and shape(it.control) != shape(it.old) for it in of)]
+    return wrong, controls
+
+
 def counts(questions):
     """What is counted: a name as in least.txt, and how many there are."""
     for name in questions:
-        yield f"questions {name}", len(questions[name])
+        yield f"questions {name}", len({*questions[name]})
     stored = json.loads(read("tests", "runs.json"))
-    yield "runs", sum(len(stored[it]) for it in ("runs", "worked", "matrix", "lists"))
+    runs = {json.dumps([kind, {**it, "name": ""}], sort_keys=True) for kind in ("runs", "worked", "matrix", "lists") for it in stored[kind]}
+    yield "runs", len(runs)
+    wrong, controls = edits()
+    yield "edits", len(wrong)
+    yield "controls", len(controls)
     yield "objects", objects.count()
     yield "documented", documented.count()
     yield "sizes", sizes.count()
@@ -86,4 +110,5 @@ def judged():
         found = list(faults_of(name, questions[name], kinds_told(name)))
         faults += found
         passed += not found
-    return passed, faults + [f"tests/least.txt: nothing is counted as `{name}`" for name in least]
+    parts = {part.name for part in gate.parts([])[2]}
+    return passed, faults + [f"tests/least.txt: nothing is counted as `{name}`" for name in least if name not in parts]

@@ -55,11 +55,13 @@ OF_C = ("c", "c.py", "c.sh", "calls.py", "fuzz.py", "objects.py", "refuse.c", "r
 class Part:
     """A part of the gate: its name, its words, the programs and files that its verdict rests on, if it is kept, programs that
     it runs besides, and how many lines it closes with. Of programs that it `sees` the verdict rests on the contracts below
-    alone (seen.py). One that `fills` gives way to others, since none waits for it."""
+    alone (seen.py). One that `fills` gives way to others, since none waits for it. One with counts of tests/least.txt passes as
+    many at least, and one for each check of its script that tests/names.txt has. One that has a count there under its own name
+    passes as many where it leaves nothing out."""
 
-    def __init__(self, name, words, programs=(), rests_on=(), runs=(), closings=1, sees=(), fills=False):
+    def __init__(self, name, words, programs=(), rests_on=(), runs=(), closings=1, sees=(), fills=False, counts=()):
         self.name, self.words, self.programs, self.rests_on, self.closings = name, words, programs, rests_on, closings
-        self.runs, self.sees, self.fills = {*programs, *runs}, sees, fills
+        self.runs, self.sees, self.fills, self.counts = {*programs, *runs}, sees, fills, counts
 
     def entry(self, crates):
         """The name of its verdict in the store, or None where it is tried each time."""
@@ -72,6 +74,29 @@ class Part:
         """What it rests on and isn't there."""
         return [it for it in self.rests_on if not os.path.exists(os.path.join(TOP, it))]
 
+    def least(self):
+        """How many pass of it at least."""
+        if not self.counts:
+            return 1
+        checks = [it for it in lines_of("names.txt") if it.startswith(f"{self.words[-1]}: ")]
+        return len(checks) + sum(counted()[it] for it in self.counts)
+
+    def whole(self):
+        """How many pass of it at least where it leaves nothing out."""
+        return max(self.least(), counted().get(self.name, 1))
+
+
+def counted():
+    """The counts of tests/least.txt, by name."""
+    told = (it.rsplit(" ", 1) for it in lines_of("least.txt") if not it.startswith("#"))
+    return {name: int(count) for name, count in told}
+
+
+def lines_of(name):
+    """The lines of a file of tests/ that say something."""
+    with open(os.path.join(TOP, "tests", name), encoding="utf-8") as file:
+        return [it for it in file.read().splitlines() if it]
+
 
 def parts(more):
     """The parts that read texts, that which proves, and those that then run programs; all but the second are run side by side."""
@@ -82,7 +107,8 @@ def parts(more):
     of_c = ("build", "docs/C.md", "gate/prove.py", "include", "tools")
     licences = ("LICENSE-APACHE", "LICENSE-BSD")
     of_pack = (*licences, "build", "examples", "gate/prove.py", "include", "pack", "tools")
-    of_python = (*of_pack, "README.md", "docs/PYTHON.md", "pyproject.toml", "python", "tests/python.sh", "tests/refuse.c")
+    of_python = (*of_pack, "README.md", "docs/DIFFERENCES.md", "docs/PYTHON.md", "pyproject.toml", "python", "tests/packaging_suite",
+                 "tests/python.sh", "tests/refuse.c")
     of_release = (*of_pack, ".gitignore", "README.md", "crates.txt", "docs", "gate", "install", "pyproject.toml", "python", "share",
                   "tests/counted.sh", "tests/release.sh")
     of_deb = (*of_pack, "docs/C.md", "docs/COMMANDS.md", "install", "rust/fowlyore/README.md", "share", "tests/counted.sh",
@@ -105,7 +131,8 @@ def parts(more):
         Part("calls without memory", [*python, "gate/no_memory.py"]),
         Part("one version", [*python, "gate/versions.py"]),
     ], Part("proofs and wrong edits", [*python, "gate/together.py", *more], closings=2), [
-        Part("command line", ["bash", "tests/cli.sh"], ["reqs_cli"], [*of_reqs, "README.md", "docs"]),
+        Part("command line", ["bash", "tests/cli.sh"], ["reqs_cli"], [*of_reqs, "README.md", "docs"],
+             counts=("runs", "objects", "documented", "sizes", "ends", "numerals")),
         Part("answers compared", [*python, "tests/alike.py", "1000"], ["reqs_cli"], of_reqs, fills=True),
         Part("lists compared", [*python, "tests/pairs.py", "500"], ["reqs_cli"], of_reqs, fills=True),
         Part("lists covered", [*python, "tests/covered.py", "1000"], ["reqs_cli"], of_reqs, fills=True),
@@ -114,7 +141,7 @@ def parts(more):
         Part("installing", ["bash", "tests/install.sh"], ["reqs_cli"], of_reqs),
         Part("refused memory", ["bash", "tests/refused.sh"], ["reqs_cli", QUESTIONS], [*of_reqs, *asked], fills=True),
         Part("library for C", ["bash", "tests/c.sh"], ["reqs_c"], [*of_c, "examples", *(f"tests/{it}" for it in OF_C)]),
-        Part("Python package", ["bash", "tests/python.sh"], ["reqs_c"], of_python, fills=True),
+        Part("Python package", ["bash", "tests/python.sh"], ["reqs_c"], of_python, fills=True, counts=("Python package",)),
         # (that answers are right the parts above say of each program)
         Part("older Pythons", ["bash", "tests/python.sh", "--older"], [], of_python, ["reqs_c"], sees=("reqs_c",), fills=True),
         Part("lists in pieces", [*python, "tests/index.py"], ["reqs_c", "reqs_cli"], of_index),
@@ -161,15 +188,24 @@ def judged(part, crates, store, show):
         return 0, 1, []
     entry = part.entry(crates)
     kept = verdict_of(store.verdict(entry)) if entry else None
-    if kept:
+    if kept and kept[0] >= least_of(part, kept[1]):
         show(f"    {kept[0]} passed, taken from the store\n")
         good, bad, left = kept[0], 0, kept[1]
     else:
         good, bad, left = run(part, show)
+        least = least_of(part, left)
+        if not bad and good < least:
+            show(f"test: {part.name}: {good} passed, and not {least} or more: not all was tried\n")
+            bad = 1
         if entry and not bad and part.entry(Crates()) == entry:
             store.keep_verdict(entry, json.dumps([good, left]))
     show(f"test: {part.name}: {good} passed, {bad} failed in {time.monotonic() - began:.0f} s\n")
     return good, bad, [f"{part.name}: {it}" for it in left]
+
+
+def least_of(part, left):
+    """How many pass at least of a part that left this out."""
+    return part.least() if left else part.whole()
 
 
 def verdict_of(line):

@@ -28,6 +28,7 @@ LENT = {
     "has_float": ("pep508_environment", ("reqs_io_faults",)),
     "conjunction_of_all": ("pep508_conjunctions", ("pep508_marker_parser",)),
     "copied_packages": ("reqtable_requirements", ("reqtable_packages", "reqtable_list_tests")),
+    "from_lines": ("reqtable_requirements", ("reqtable_assumption", "reqtable_list_tests")),
     "packages_table": ("reqtable_packages", ("reqtable_conflicts", "reqtable_compare")),
     "package_count": ("reqtable_table", ("reqs_answers", "reqtable_tests")),
     "row_among": ("reqtable_table", ("reqs_rows",)),

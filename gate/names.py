@@ -4,7 +4,7 @@
     names.py
 
 The list has each `#[test]` of the crates and of rust/, each test of python/tests, each check of tests/ that has a name, each
-word on what isn't tried, each stored run, each part of the gate and each fault that it plants; of examples in documentation
+word on what isn't tried, each skip of python/tests, each stored run, each part of the gate and each fault that it plants; of examples in documentation
 how many a file has. One that is new or gone fails; `./test --accept NAME..` takes it. assertions.py says what a test has to assert.
 The last line is `N passed, M failed`, a name each.
 """
@@ -16,7 +16,7 @@ import os
 import re
 import sys
 
-from assertions import faults_of_python, faults_of_tests
+from assertions import UNLIKE, bases_of, faults_of_loading, faults_of_python, faults_of_tests, skips_of
 from clauses import Source, after_brackets
 from crates import TOP, Crates
 from lists import Found, Listed, judged
@@ -100,6 +100,8 @@ def python_tests():
                 if isinstance(it, (ast.FunctionDef, ast.AsyncFunctionDef)) and it.name.startswith("test"):
                     name = f"{of.name}.{it.name}" if it is not of else it.name
                     yield f"{path}: {name}", f"{path}:{it.lineno}"
+        for line, said in skips_of(text):
+            yield f"{path}: {said}", f"{path}:{line}"
 
 
 def names():
@@ -120,11 +122,15 @@ def names():
 def faults():
     """Tests in the crates, in rust/ and in python/tests that assert what can't fail, or that nothing runs."""
     yield from faults_of_tests([*crate_tests(), *rust_tests()])
-    for path, text in texts("rust/fowlyore/**/*.rs"):
-        for it in re.finditer(r"#\[ignore\b", text):
-            yield f"{path}:{line_of(text, it.start())}: a test that nothing runs"
+    for path, text in texts("crates/*/src/**/*.rt", "rust/fowlyore/src/**/*.rs", "rust/fowlyore/tests/**/*.rs"):
+        for it in UNLIKE.finditer(text):
+            yield f"{path}:{line_of(text, it.start())}: a test that nothing runs, or one that passes where it fails: {it[0]}]"
+    bases = {}
+    for _, text in texts("python/tests/**/*.py"):
+        bases.update(bases_of(text))
     for path, text in texts("python/tests/**/*.py"):
         yield from faults_of_python(path, text)
+        yield from faults_of_loading(path, text, bases)
 
 
 if __name__ == "__main__":

@@ -8,6 +8,7 @@ import shutil
 import tempfile
 import unittest.mock
 
+import gate
 import kept
 from crates import TOP
 from faults import FAILING, FAILING_TEST, FAULTS, LAST_USE, PROVE, Fault, copy_of, ran
@@ -271,11 +272,21 @@ def what_an_edit_rests_on():
     return None
 
 
+def tries_less():
+    """Why a part passes whose script ends early, or None."""
+    early = ["bash", "-c", "echo 1 passed, 0 failed"]
+    for part in (gate.Part("command line", [*early, "tests/cli.sh"], counts=("runs",)), gate.Part("lists compared", early)):
+        if not gate.judged(part, None, None, lambda _: None)[1]:
+            return f"{part.name}: it passed"
+    return None
+
+
 def told():
     """The name of each thing that is tried, and why it isn't as it has to be, or None."""
     yield Tried("an entry that is cut short", cut_short())
     yield Tried("a store that is full", full())
     yield Tried("a failing test that the store knows otherwise", taken_over())
+    yield Tried("a part whose script ends early", tries_less())
     yield Tried("what a check sees of the crates below", what_a_check_sees())
     yield Tried("what the verdict on an edit rests on", what_an_edit_rests_on())
     yield from through_kept_work()

@@ -27,6 +27,8 @@ import sys
 import tempfile
 from collections import Counter
 
+import runs
+
 PROGRAM = os.path.join(os.path.dirname(os.path.abspath(__file__)), "..", "crates", "reqs_cli", "out", "reqs_cli")
 MOST_LINES, MOST_ENVIRONMENTS = 12, 6
 # What becomes of a package, and of a round. Each has to come at least once. (`passed over`: pre-releases, for want of a line
@@ -320,8 +322,9 @@ def wanted(checks, places):
 
 
 def ran(program, words, folder):
-    how = {"LC_ALL": "C.UTF-8", "PWD": folder, "HOST": "example.org"}
-    done = subprocess.run([program, *words], cwd=folder, env=how, stdin=subprocess.DEVNULL, capture_output=True, timeout=60)
+    environment = {"LC_ALL": "C.UTF-8", "PWD": folder, "HOST": "example.org"}
+    how = {"env": environment, "stdin": subprocess.DEVNULL, "capture_output": True, "timeout": runs.HANGS}
+    done = subprocess.run([program, *words], cwd=folder, **how)
     return done.returncode, done.stdout, done.stderr
 
 

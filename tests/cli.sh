@@ -783,7 +783,7 @@ done
 run help
 wants "help" 0 SOMETHING ""
 run --version
-wants "--version" 0 "reqs 0.2.0$n" ""
+wants "--version" 0 "reqs 0.3.0$n" ""
 built=$top/crates/reqs_cli/out/reqs_cli
 (exec -a /else/where "$built" check --help) 2>err </dev/null | sed -n 's/^Usage: //p' >out
 status=${PIPESTATUS[0]}

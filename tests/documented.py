@@ -40,7 +40,7 @@ def examples():
 
 def differs(program, command, written):
     """How an example ends otherwise than it says."""
-    how = {"capture_output": True, "timeout": 60, "text": True, "cwd": TOP, "stdin": subprocess.DEVNULL}
+    how = {"capture_output": True, "timeout": runs.HANGS, "text": True, "cwd": TOP, "stdin": subprocess.DEVNULL}
     line = re.sub(r"\./(?:reqs|try) ", lambda _: f"{shlex.quote(program)} ", command)
     done = subprocess.run(["bash", "-c", line], **how)
     return [] if done.stdout + done.stderr == written else [f"it writes {done.stdout + done.stderr!r}"]

@@ -67,7 +67,7 @@ class Runner:
         return Ended(*done, told[:3], told[AFTER_END], told[WRITES])
 
     def ended(self, words, folder, environment, out):
-        how = {"stdin": subprocess.DEVNULL, "stderr": subprocess.PIPE, "timeout": 300, "cwd": folder, "env": environment}
+        how = {"stdin": subprocess.DEVNULL, "stderr": subprocess.PIPE, "timeout": runs.HANGS, "cwd": folder, "env": environment}
         if out is None:
             done = subprocess.run([self.program, *words], stdout=subprocess.PIPE, **how)
             return done.returncode, done.stdout, done.stderr
@@ -334,7 +334,8 @@ def into_itself(program, row, path, redirected):
                 file.write(text)
         words = ["-" if it == path and "0" in redirected else it for it in row.inputs]
         line = f'"$0" {row.command} {" ".join(words)} {redirected}'
-        done = subprocess.run(["bash", "-c", line, program], cwd=folder, stdin=subprocess.DEVNULL, capture_output=True, timeout=60)
+        how = {"stdin": subprocess.DEVNULL, "capture_output": True, "timeout": runs.HANGS}
+        done = subprocess.run(["bash", "-c", line, program], cwd=folder, **how)
         with open(os.path.join(folder, path), "rb") as file:
             return Ended(done.returncode, done.stdout + file.read(), done.stderr)
 

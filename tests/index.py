@@ -19,8 +19,22 @@ from pathlib import Path
 
 TOP = Path(__file__).resolve().parent.parent
 LIMIT = 16_777_216
-# A package that makes a worker die, in place of the library.
-DEADLY = "import os\nclass InvalidInput(Exception): pass\ndef matrix_texts(*given): os._exit(9)\n"
+# A run that hasn't ended after so many seconds never does, however slow the machine is.
+HANGS = 1800
+# How long Dask's processes wait for one another: they may be slow too.
+PATIENT = {f"DASK_DISTRIBUTED__COMM__TIMEOUTS__{it}": "300s" for it in ("CONNECT", "TCP")}
+# A package that makes workers die, in place of the library: each of two once the other is there too, since a pool that loses one
+# while it starts the next fails in other words.
+DEADLY = f"""
+import os, pathlib, time
+class InvalidInput(Exception): pass
+def matrix_texts(*given):
+    here, last = pathlib.Path(__file__).parent, time.monotonic() + {HANGS}
+    (here / f"{{os.getpid()}}.begun").touch()
+    while len([*here.glob("*.begun")]) < 2 and time.monotonic() < last:
+        time.sleep(0.01)
+    os._exit(9)
+"""
 # One that answers how its process was started.
 TELLING = (
     "import multiprocessing\nclass InvalidInput(Exception): pass\n"
@@ -73,7 +87,7 @@ class Tests:
     def __init__(self, words, folder):
         self.passed, self.failed, self.folder = 0, 0, Path(folder)
         self.program = words.program
-        self.environment = {**os.environ, "PYTHONDONTWRITEBYTECODE": "1", "LC_ALL": "C.UTF-8"}
+        self.environment = {**os.environ, **PATIENT, "PYTHONDONTWRITEBYTECODE": "1", "LC_ALL": "C.UTF-8"}
         self.library = {"PYTHONPATH": str(TOP / "python"), "FOWLYORE_LIBRARY": words.library}
 
     def holds(self, name, is_so, said=""):
@@ -85,7 +99,7 @@ class Tests:
         """A script of examples/index, or the program, in a folder."""
         command = [self.program, *words[1:]] if words[0] == "reqs" else [python, TOP / "examples/index" / words[0], *words[1:]]
         how = {**self.environment, **self.library, **more}
-        return subprocess.run(command, cwd=where, env=how, capture_output=True, text=True, timeout=120)
+        return subprocess.run(command, cwd=where, env=how, capture_output=True, text=True, timeout=HANGS)
 
     def left(self, where):
         """What a run has left behind beside its inputs."""

@@ -34,7 +34,7 @@ extern void *__libc_memalign(size_t, size_t);
 
 /* How many files a program that is forked may have open, and how many seconds one of its runs may take. */
 #define MOST_OPEN 64
-#define SECONDS 60
+#define SECONDS 600
 
 /* How a run ended in which requests from the first to the last were refused, or none where the first is 0. */
 struct ended {

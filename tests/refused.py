@@ -34,6 +34,7 @@ import sys
 import tempfile
 
 import objects
+import runs
 from rows import FORMATS, ROWS
 
 TOP = os.path.dirname(os.path.dirname(os.path.abspath(__file__)))
@@ -101,7 +102,7 @@ def ran(library, words, folder, first, last):
         refuse = {"REFUSE_TOLD": str(writes), "REFUSE_FIRST": str(first), "REFUSE_LAST": str(last)}
         environment = {"LC_ALL": "C.UTF-8", "LD_PRELOAD": library, **refuse}
         done = subprocess.run(words, cwd=folder, env=environment, stdin=subprocess.DEVNULL, capture_output=True,
-                              pass_fds=[writes], timeout=60)
+                              pass_fds=[writes], timeout=runs.HANGS)
         os.close(writes)
         writes = None
         return (done.returncode, done.stdout, done.stderr), bool(os.read(reads, 1))
@@ -118,7 +119,7 @@ def ran_at_each(library, words, folder):
         refuse = {"REFUSE_EACH": str(told.fileno()), "REFUSE_LAST": str(MOST_REQUESTS)}
         environment = {"LC_ALL": "C.UTF-8", "LD_PRELOAD": library, **refuse}
         done = subprocess.run(words, cwd=folder, env=environment, stdin=subprocess.DEVNULL, capture_output=True,
-                              pass_fds=[told.fileno()], timeout=600)
+                              pass_fds=[told.fileno()], timeout=10 * runs.HANGS)
         told.seek(0)
         said, at = told.read(), 0
     if (done.returncode, done.stdout, done.stderr) != (0, b"", b""):
@@ -243,7 +244,7 @@ def commands(room):
     yield "standard input:", ["check", *files[:2], "-"], room, (0, b"foo-bar none\n", b"")
     yield "a path that is no text:", ["check", *files[:2], os.fsdecode(b"\xff\xfe")], room, (2, b"", NO_TEXT)
     yield "help:", ["--help"], room, (0, read(os.path.join(TOP, "tests", "help.txt")), b"")
-    yield "version:", ["--version"], room, (0, b"reqs 0.2.0\n", b"")
+    yield "version:", ["--version"], room, (0, b"reqs 0.3.0\n", b"")
     yield "a wrong word:", ["judge"], room, (2, b"", WRONG_WORD)
 
 

@@ -15,6 +15,8 @@ import subprocess
 import sys
 import tempfile
 
+# A program that hasn't ended after so many seconds never does: machines may be slow, and have other work.
+HANGS = 600
 # The options that a run may name, each with its number.
 OPTIONS = ("limit", "cases", "nodes", "clauses")
 
@@ -38,7 +40,7 @@ def ended(program, words, texts):
         for name, text in texts.items():
             with open(os.path.join(folder, name), "wb") as file:
                 file.write(to_bytes(text))
-        how = {"stdin": subprocess.DEVNULL, "capture_output": True, "timeout": 60}
+        how = {"stdin": subprocess.DEVNULL, "capture_output": True, "timeout": HANGS}
         done = subprocess.run([program, *words], cwd=folder, **how)
         return done.returncode, done.stdout, done.stderr
 

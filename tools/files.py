@@ -13,6 +13,7 @@ import ast
 import glob
 import os
 import re
+import subprocess
 import sys
 
 TOP = os.path.dirname(os.path.dirname(os.path.abspath(__file__)))
@@ -106,6 +107,14 @@ def listed():
     return "\n".join(pieces), count, bare
 
 
+def ignored():
+    """What is committed though git ignores it, as a program in out/, which is taken for proved by the mark beside it."""
+    words = ["git", "ls-files", "-z", "--cached", "--ignored", "--exclude-standard"]
+    ran = subprocess.run(words, cwd=TOP, stdin=subprocess.DEVNULL, capture_output=True)
+    # (a copy that is no clone has nothing committed)
+    return [it for it in ran.stdout.decode(errors="replace").split("\0") if it] if ran.returncode == 0 else []
+
+
 def main(words):
     if words not in (["--write"], ["--check"]):
         print(__doc__, file=sys.stderr)
@@ -121,11 +130,14 @@ def main(words):
     gone = sorted(there - set(text.splitlines()))
     if page != text and not other + gone:
         other = ["all of them, in this order and once"]
+    committed = ignored()
+    for path in committed:
+        print(f"FAILED: {path} is committed, though git ignores it")
     for path in bare:
         print(f"FAILED: {path} has no head that begins with a sentence")
     for it in [*other, *gone]:
         print(f"FAILED: docs/FILES.md {'lacks' if it in other else 'has'} the line: {it}")
-    failed = len(bare) + max(len(other), len(gone))
+    failed = len(committed) + len(bare) + max(len(other), len(gone))
     if other or gone:
         print("`python3 tools/files.py --write` makes the list anew")
     print(f"{max(count - failed, 0)} passed, {failed} failed")

@@ -438,12 +438,13 @@ static int put_prereleases(PyObject *self, PyObject *value) {
     return put(self, S_PRERELEASES, value);
 }
 
-/* Reads the two arguments of what is made of them, which has no members then. */
+/* Reads the two arguments of what is made of them, once, which has no members then. */
 static int two_arguments(PyObject *self, PyObject *args, PyObject *names, char *first, PyObject **text,
                          PyObject **prereleases) {
     char *words[] = {first, "prereleases", NULL};
     *text = NULL;
     *prereleases = Py_None;
+    if (((Parted *)self)->all[S_BYTES]) return PyErr_SetString(PyExc_TypeError, "specifiers are made once"), -1;
     parted_clear(self);
     if (!names && PyTuple_Size(args) == 1) *text = PyTuple_GetItem(args, 0);
     else if (!PyArg_ParseTupleAndKeywords(args, names, "|OO", words, text, prereleases)) return -1;
@@ -588,10 +589,22 @@ static PyObject *joined(PyObject *members) {
     return text;
 }
 
-/* The set of the members of two, which were made, where neither says whether pre-releases are let in. */
+static PyObject *set_and(PyObject *self, PyObject *other);
+
+/* How many classes of Python there are from the type of an object to the type of sets here, or -1 if it is no set. */
+static int classes_above(PyObject *self) {
+    int count = 0;
+    for (PyTypeObject *type = Py_TYPE(self); type; type = (PyTypeObject *)PyType_GetSlot(type, Py_tp_base), count++)
+        if (PyType_GetSlot(type, Py_tp_dealloc) == (void *)parted_dealloc)
+            return PyType_GetSlot(type, Py_nb_and) == (void *)set_and ? count : -1;
+    return -1;
+}
+
+/* The set of the members of two, which were made, where neither says whether pre-releases are let in. It is of the
+ * package's class also where these are of a class below that. */
 static PyObject *set_and(PyObject *self, PyObject *other) {
     PyObject **all = ((Parted *)self)->all, **others = ((Parted *)other)->all;
-    int alike = Py_TYPE(self) == Py_TYPE(other) && all[L_MADE] && others[L_MADE];
+    int alike = Py_TYPE(self) == Py_TYPE(other) && classes_above(self) == 1 && all[L_MADE] && others[L_MADE];
     if (alike && all[S_PRERELEASES] == Py_None && others[S_PRERELEASES] == Py_None) {
         PyObject *both = PyType_GenericAlloc(Py_TYPE(self), 0), **its = both ? ((Parted *)both)->all : NULL;
         PyObject *(*join)(PyObject *, PyObject *) = PyNumber_Or;
@@ -601,7 +614,7 @@ static PyObject *set_and(PyObject *self, PyObject *other) {
             return put_prereleases(both, Py_None), both;
         return Py_XDECREF(both), NULL;
     }
-    if (PyType_GetSlot(Py_TYPE(self), Py_nb_and) != (void *)set_and) return shared(Py_NotImplemented);
+    if (classes_above(self) < 0) return shared(Py_NotImplemented);
     return PyObject_CallMethod(self, "_written_and", "(O)", other);
 }
 
@@ -623,7 +636,6 @@ static PyMemberDef set_members_of[] = {
     {"_made", AT(L_MADE), 0, NULL},
     {"_bytes", AT(L_BYTES), 0, NULL},
     {"_prereleases", AT(S_PRERELEASES), 0, NULL},
-    {"_names_one", AT(S_NAMES_ONE), 0, NULL},
     {"__weaklistoffset__", T_PYSSIZET, offsetof(Parted, weak), READONLY, NULL},
     {NULL, 0, 0, 0, NULL},
 };

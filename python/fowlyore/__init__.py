@@ -31,7 +31,7 @@ from .specifiers import InvalidSpecifier, Specifier, SpecifierSet
 from .urls import MarkerInURLWarning
 from .version import InvalidVersion, Version, parse
 
-__version__ = "0.2.0"
+__version__ = "0.3.0"
 __all__ = [
     "Assumption",
     "Comparison",

@@ -1,29 +1,33 @@
 """The command line: `python -m fowlyore`, or `fowlyore` if the package is installed."""
 
 import argparse
+import errno
 import importlib
 import io
 import json
 import os
 import re
 import shutil
+import signal
 import sys
 import warnings
 from contextlib import contextmanager, suppress
 from pathlib import Path
-from typing import Any, Dict, Iterable, Iterator, List, NamedTuple, NoReturn, Optional, Union
+from typing import Any, BinaryIO, Callable, Dict, Iterable, Iterator, List, NamedTuple, NoReturn, Optional, Tuple, Union
 
 from . import __version__, tables
 from .distributions import installed
+from .errors import columns
 from .explanations import Explanation, check_explained
 from .files import has_groups, read, read_text, refuse_groups
 from .listings import LeftOut, Listing
 from .lists import (
-    GREATEST_LIMIT, LIMIT, Input, InvalidInput, Row, check, conflicts, covers, environment_input, environments_input, matrix,
-    normal, same,
+    GREATEST_LIMIT, LIMIT, Comparison, Covering, Input, InvalidInput, Row, check, conflicts, covers, environment_input,
+    environments_input, matrix, normal, read_input, same,
 )  # fmt: skip
 from .markers import completed
 from .offered import read_candidates, wheelhouse
+from .pip_files import read_list
 from .progress import Progress, is_terminal
 from .urls import MarkerInURLWarning
 from .utils import normal_name
@@ -33,6 +37,8 @@ ANSWERED, DIFFERENT, REFUSED, NOT_READ, STRICT = range(5)
 Source = Union[Path, bytes]
 # What a standard stream is called.
 OUTPUT = "standard output"
+# Control characters but line feeds, and what changes the direction of text (UAX #9).
+HIDDEN = re.compile("[\x00-\x09\x0b-\x1f\x7f-\x9f\u061c\u200e\u200f\u202a-\u202e\u2066-\u2069]")
 # The words that name an input.
 INPUTS = ("requirements", "environment", "environments", "candidates", "left", "right", "lock")
 
@@ -44,15 +50,22 @@ unless its name says otherwise: pyproject.toml, pylock.toml, METADATA, PKG-INFO,
 installed distribution."""
 
 
-def source(word: str) -> Source:
-    """An input: the bytes of standard input, or a path."""
+def source(word: str, reading: Callable[[BinaryIO], bytes] = read_input) -> Source:
+    """An input: the bytes of standard input, as they are read there, or a path."""
     if word != "-":
-        return Path(word)
+        return path_of(word)
     # (None where the process was started without it)
     if sys.stdin is None:
         raise OSError("standard input is closed")
     with of_stream("standard input"):
-        return sys.stdin.buffer.read()
+        return reading(sys.stdin.buffer)
+
+
+def path_of(word: str) -> Path:
+    """The path that a word names. An empty one names nothing, of which `Path` would make the working folder."""
+    if not word:
+        raise FileNotFoundError(errno.ENOENT, os.strerror(errno.ENOENT), "''")
+    return Path(word)
 
 
 @contextmanager
@@ -74,7 +87,7 @@ def discard(stream: Any) -> None:
 
 def listing(word: str, groups: List[str]) -> Listing:
     """A list that is named. What is left out of it is told."""
-    given = source(word)
+    given = source(word, lambda file: read_list(word, file))
     if isinstance(given, bytes) and groups:
         refuse_groups(word)
     found = read_text(given) if isinstance(given, bytes) else read(given, groups=groups)
@@ -120,9 +133,27 @@ def flush_output() -> None:
             sys.stdout.flush()
 
 
+def shown(text: str) -> str:
+    """A text of one or more lines in which what a terminal takes for more than a character is its number, as `\\u{1b}`."""
+    return HIDDEN.sub(lambda it: f"\\u{{{ord(it[0]):x}}}", text)
+
+
+def told(error: InvalidInput) -> str:
+    """What an error says, as it is shown. Where something of it is shown by its number, the marks below a line are made
+    anew, for the columns that its part at fault has then."""
+    said = str(error)
+    front, _, marks = said.rpartition("\n")
+    front, _, line = front.rpartition("\n")
+    text, start, end = error.text or "", error.start, error.end
+    if start is None or end is None or not (line and text.startswith(line) and marks.endswith("^")) or shown(said) == said:
+        return shown(said)
+    blanks, count = columns(shown(text[:start])), max(1, columns(shown(text[start:end])))
+    return f"{shown(front)}\n{shown(line)}\n{' ' * blanks}{'^' * count}"
+
+
 def complain(sentence: str) -> None:
     """Prints a sentence on standard error."""
-    show_error(f"fowlyore: {sentence}")
+    show_error(f"fowlyore: {shown(sentence)}")
 
 
 def show_error(text: str) -> None:
@@ -154,9 +185,11 @@ class Parser(argparse.ArgumentParser):
 
 def limit_of(word: str) -> int:
     """A limit as `reqs` reads one."""
-    if not re.fullmatch(r"\+?[0-9]+", word) or int(word) > GREATEST_LIMIT:
+    # (int refuses a text of some thousand digits, also of zeros)
+    found = re.fullmatch(r"\+?0*([0-9]{1,7})", word)
+    if found is None or int(found[1]) > GREATEST_LIMIT:
         raise argparse.ArgumentTypeError(f"{word!r} is no number from 0 to {GREATEST_LIMIT}")
-    return int(word)
+    return int(found[1])
 
 
 def parser() -> argparse.ArgumentParser:
@@ -249,7 +282,7 @@ def interpreter_of(words: argparse.Namespace, environment: Input) -> Interpreter
     """The interpreter of `check`. Its tags are known of the running one, where the package `packaging` is there."""
     try:
         python = Version(json.loads(environment.text)["python_full_version"])
-    except (ValueError, KeyError, TypeError, AttributeError):
+    except (ValueError, KeyError, TypeError, AttributeError, RecursionError):
         # (the library refuses this environment)
         return Interpreter()
     if words.environment is not None or words.python_version is not None:
@@ -274,7 +307,7 @@ def candidates_of(words: argparse.Namespace, interpreter: Interpreter) -> Any:
     wanted: Any = {"python": interpreter.python, "tags": interpreter.tags}
     offered: Any
     if words.wheelhouse:
-        offered = [it for folder in words.wheelhouse for it in wheelhouse(Path(folder), told, **wanted)]
+        offered = [it for folder in words.wheelhouse for it in wheelhouse(path_of(folder), told, **wanted)]
     else:
         given = source(words.candidates)
         offered = given if isinstance(given, bytes) else read_candidates(given, told, **wanted)
@@ -331,7 +364,7 @@ def show_rows(words: argparse.Namespace, rows: List[Row], explanations: List[Exp
     else:
         why = {it.name: it.sentences for it in explanations}
         for row in rows:
-            show(row, *why.get(row.name, ()), sep="\n    ")
+            show(row, *map(shown, why.get(row.name, ())), sep="\n    ")
 
 
 def width() -> Optional[int]:
@@ -361,22 +394,25 @@ def run_matrix(words: argparse.Namespace) -> int:
     return STRICT if words.strict and any(it.is_none for rows in answers for it in rows) else ANSWERED
 
 
-def two_listings(one: str, other: str, groups: List[str]) -> List[Listing]:
+def two_listings(one: str, other: str, groups: List[str]) -> Tuple[Listing, Listing]:
     """Two lists; the groups are those of the projects and lock files among them."""
     with_groups = [it for it in (one, other) if has_groups(it)] or [one, other]
-    return [tell_assumed(listing(it, groups if it in with_groups else [])) for it in (one, other)]
+    left, right = (tell_assumed(listing(it, groups if it in with_groups else [])) for it in (one, other))
+    return left, right
 
 
 def run_same(words: argparse.Namespace) -> int:
     left, right = two_listings(words.left, words.right, words.group)
-    answer = same(left, right, words.limit)
-    show(answer)
-    return ANSWERED if answer else DIFFERENT
+    return show_relation(same(left, right, words.limit))
 
 
 def run_covers(words: argparse.Namespace) -> int:
     lock, requirements = two_listings(words.lock, words.requirements, words.group)
-    answer = covers(lock, requirements, words.limit)
+    return show_relation(covers(lock, requirements, words.limit))
+
+
+def show_relation(answer: Union[Comparison, Covering]) -> int:
+    """Prints whether two lists are related as is asked, and gives the status."""
     show(answer)
     return ANSWERED if answer else DIFFERENT
 
@@ -400,10 +436,11 @@ RUNS = {
 
 
 def write_utf8() -> None:
-    """Makes all output UTF-8, as `reqs` does, whatever the encoding of the locale is."""
+    """Makes all output UTF-8, as `reqs` does, whatever the encoding of the locale is. Bytes of a path that aren't UTF-8 are
+    written by their numbers."""
     for it in (sys.stdout, sys.stderr):
         if isinstance(it, io.TextIOWrapper):
-            it.reconfigure(encoding="utf-8", errors=it.errors)
+            it.reconfigure(encoding="utf-8", errors="backslashreplace")
 
 
 def complain_of_warnings() -> None:
@@ -432,15 +469,12 @@ def run(said: argparse.Namespace) -> int:
     return status
 
 
-def main(words: Optional[List[str]] = None) -> int:
-    """Runs a command, by default that of the process, and returns its exit status."""
-    if words is None:
-        Progress.is_wanted = True
-        write_utf8()
+def status_of(words: Optional[List[str]]) -> int:
+    """Runs a command, tells what is refused or fails, and returns the exit status."""
     try:
         return run(parser().parse_args(words))
     except InvalidInput as error:
-        complain(str(error))
+        complain(told(error))
         return REFUSED
     except BrokenPipeError:
         discard(sys.stdout)
@@ -453,6 +487,27 @@ def main(words: Optional[List[str]] = None) -> int:
     except MemoryError:
         complain("memory ran out")
         return NOT_READ
+
+
+def end_by_interrupt() -> int:
+    """Ends the process by the signal that interrupted it, as if that were not handled, so that who runs it sees that. What
+    is printed and still kept isn't written. Returns the status that shells give for it, where the signal is blocked."""
+    signal.signal(signal.SIGINT, signal.SIG_DFL)
+    signal.raise_signal(signal.SIGINT)
+    return 128 + signal.SIGINT
+
+
+def main(words: Optional[List[str]] = None) -> int:
+    """Runs a command, by default that of the process, and returns its exit status. A process that is interrupted, as by
+    Ctrl-C, ends by that."""
+    if words is not None:
+        return status_of(words)
+    try:
+        Progress.is_wanted = True
+        write_utf8()
+        return status_of(None)
+    except KeyboardInterrupt:
+        return end_by_interrupt()
 
 
 if __name__ == "__main__":

@@ -1,8 +1,26 @@
-"""Properties that are computed on first use."""
+"""Properties that are computed on first use, and answers that are kept by what was asked."""
 
-from typing import Any, Callable, Generic, Optional, TypeVar, Union, overload
+from typing import Any, Callable, Dict, Generic, Optional, TypeVar, Union, overload
 
 Value = TypeVar("Value")
+# Of how many characters an answer may be at most that is kept, with what was asked.
+LONGEST_KEPT = 1 << 14
+
+
+def keep(kept: Dict[Any, Any], asked: Any, answer: Any, most: int, size: int) -> None:
+    """Keeps an answer by what was asked, in which there are about so many characters. If there are `most` it drops them first.
+
+    >>> squares = {}
+    >>> for it in range(5):
+    ...     keep(squares, it, it * it, 3, 1)
+    >>> squares
+    {3: 9, 4: 16}
+    """
+    if size > LONGEST_KEPT:
+        return
+    if len(kept) >= most:
+        kept.clear()
+    kept[asked] = answer
 
 
 class cached_property(Generic[Value]):

@@ -31,6 +31,8 @@ MOST_ROOM = 1 << 26
 LONG_TEXTS, LONG_MARKERS = 1 << 16, 384
 # The bytes of a thread's stack that a call needs.
 STACK = 1 << 19
+# For how many seconds at a time the main thread waits for a call that another one makes.
+PAUSE = 0.1
 
 
 class Reply(ctypes.Structure):
@@ -117,7 +119,10 @@ DECLARED: Dict[str, Any] = {}
 def _declare(library: Any, name: str, result: Any, texts: int, numbers: int = 0, out: bool = True) -> Any:
     """A function of the library with its types: texts, and then numbers. Bytes are passed as they are, without a
     copy."""
-    call = DECLARED[name] = library[name]
+    try:
+        call = DECLARED[name] = library[name]
+    except AttributeError as error:
+        raise ImportError(f"fowlyore can't call its library: {error}", name="fowlyore", path=path()) from error
     call.restype = result
     call.argtypes = [ctypes.c_char_p, ctypes.c_size_t] * texts
     call.argtypes += [ctypes.c_uint64] * numbers + [ctypes.c_void_p, ctypes.c_size_t] * out
@@ -150,9 +155,12 @@ def _extension_module() -> Any:
 
 
 def _module_of(file: str) -> Any:
+    import importlib.machinery
     import importlib.util
 
-    spec = importlib.util.spec_from_file_location("fowlyore._extension", file)
+    # (that loader takes no source for one)
+    loader = importlib.machinery.ExtensionFileLoader("fowlyore._extension", file)
+    spec = importlib.util.spec_from_file_location("fowlyore._extension", file, loader=loader)
     if spec is None or spec.loader is None or sys.version_info < (3, 10):
         raise ImportError(f"{file} is no extension for this interpreter", name="fowlyore", path=file)
     module = importlib.util.module_from_spec(spec)
@@ -251,7 +259,9 @@ def _called_beside(call: Callable[[], bytes]) -> bytes:
         _thread.start_new_thread(run, ())
     except RuntimeError:  # there may be no more threads
         return call()
-    running.acquire()
+    # (a signal that comes just before the waiting doesn't end that; its handler runs after it)
+    while not running.acquire(timeout=PAUSE):
+        pass
     if errors:
         raise errors.pop()
     return answers.pop()

@@ -24,8 +24,8 @@ _EXTRA = re.compile(
 )
 # A marker that holds in each environment, and one that holds in none.
 ALWAYS, NEVER = "(os_name == '' or os_name != '')", "(os_name == '' and os_name != '')"
-# How many markers may be put into one, and how deep.
-_MOST, _DEEPEST = 10_000, 50
+# How many markers may be put into one, and how deep; and how many extras may be named in all.
+_MOST, _DEEPEST, _MOST_NAMES = 10_000, 50, 1_000_000
 
 
 class Misplaced(ValueError):
@@ -87,7 +87,7 @@ class OwnExtras:
         # (of each extra those that ask for it whenever they are asked for, and the other markers)
         self._asking: Dict[str, Set[str]] = {}
         self._markers: Dict[str, List[str]] = {}
-        self._count = 0
+        self._count = self._names = 0
         for extra, marker in references:
             alone = _EXTRA.fullmatch(marker.strip())
             if alone and alone["name"] and alone["sign"] == "==":
@@ -114,10 +114,11 @@ class OwnExtras:
     def _ways(self, extra: str, within: FrozenSet[str], depth: int) -> List[str]:
         """The markers of which one holds where an extra is asked for. What one of them asks of an extra that
         is looked at already isn't followed: it would ask for no more."""
-        self._count += 1
-        if self._count > _MOST or depth > _DEEPEST:
-            raise NotFollowed("extras ask for one another in too many ways")
         asking = self._reaching(extra, within)
+        self._count += 1
+        self._names += len(asking)
+        if self._count > _MOST or self._names > _MOST_NAMES or depth > _DEEPEST:
+            raise NotFollowed("extras ask for one another in too many ways")
         looked_at = within.union(asking)
         ways = {f"extra == '{it}'": None for it in asking}
         for it in asking:

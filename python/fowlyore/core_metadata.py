@@ -13,7 +13,7 @@ from .lists import InvalidInput, decoded, unread
 from .projects import Lines, check_marker
 from .utils import normal_name
 
-__all__ = ["python_of", "read_archive", "read_distribution", "read_folder", "read_metadata", "read_wheel"]
+__all__ = ["python_of", "read_archive", "read_distribution", "read_folder", "read_metadata", "read_some", "read_wheel"]
 
 _FIELD = re.compile(r"([!-9;-~]+)[ \t]*:[ \t]*(.*)")
 _DESCRIPTION = re.compile(rb"\n\r?\n")
@@ -152,7 +152,7 @@ def _of_wheel(path: str) -> Tuple[str, bytes]:
         names = [it for it in wheel.namelist() if re.fullmatch(r"[^/]+\.dist-info/METADATA", it)]
         name = _only(path, names, "METADATA")
         with wheel.open(name) as member:
-            data = _read_some(path, member)
+            data = read_some(path, member)
     return f"{path}/{name}", data
 
 
@@ -173,7 +173,7 @@ def _front_of_archive(path: str) -> Tuple[str, bytes]:
         for member in archive:
             if member.isfile() and re.fullmatch(r"(?:\./)?[^/]+/PKG-INFO", member.name):
                 content = archive.extractfile(member)
-                return f"{path}/{member.name}", b"" if content is None else _read_some(path, content)
+                return f"{path}/{member.name}", b"" if content is None else read_some(path, content)
     _refuse(path, "there is no file PKG-INFO")
 
 
@@ -219,16 +219,20 @@ def read_archive(path: str) -> Listing:
     import tarfile
 
     found: Dict[str, bytes] = {}
+    first: Dict[str, str] = {}
     with open(path, "rb") as file, _refusing(path, "source archive"), tarfile.open(fileobj=file, mode="r:gz") as archive:
         for member in (it for it in archive if it.isfile() and _SOURCE.fullmatch(it.name)):
-            content = archive.extractfile(member)
-            found[member.name] = b"" if content is None else _read_some(path, content)
+            # (where there are several of a kind, none is looked at)
+            is_first = first.setdefault(os.path.basename(member.name), member.name) == member.name
+            content = archive.extractfile(member) if is_first else None
+            found[member.name] = b"" if content is None else read_some(path, content)
     name = _only(path, [it for it in found if it.endswith("/PKG-INFO")], "PKG-INFO")
     requires = [data for it, data in found.items() if it.endswith("/requires.txt")]
     return read_metadata(f"{path}/{name}", found[name], requires[0] if len(requires) == 1 else None, is_source=True)
 
 
-def _read_some(path: str, file: Any) -> bytes:
+def read_some(path: str, file: Any) -> bytes:
+    """The bytes of metadata. What is too long for an input, or never ends, is refused."""
     data: bytes = file.read(_MOST + 1)
     if len(data) > _MOST:
         _refuse(path, f"metadata longer than {_MOST} bytes")
@@ -240,14 +244,14 @@ def read_folder(path: str) -> Listing:
     is_built = path.endswith(".dist-info")
     inner = os.path.join(path, "METADATA" if is_built else "PKG-INFO")
     with open(inner, "rb") as file:
-        data = file.read()
+        data = read_some(inner, file)
     return read_metadata(inner, data, None if is_built else _read_if_there(os.path.join(path, "requires.txt")))
 
 
 def _read_if_there(path: str) -> Optional[bytes]:
     try:
         with open(path, "rb") as file:
-            return file.read()
+            return read_some(path, file)
     except FileNotFoundError:
         return None
 

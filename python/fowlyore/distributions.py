@@ -1,7 +1,7 @@
 """The distributions that the running interpreter has installed."""
 
 import importlib.metadata
-from typing import Dict, List, Optional, Tuple
+from typing import Any, Dict, List, Optional, Tuple
 
 from .utils import normal_name
 from .version import is_version
@@ -13,7 +13,8 @@ def installed(left_out: Optional[List[str]] = None) -> List[Tuple[str, str]]:
     """Name and version of each installed distribution, by name; of two with the same name the one that the
     interpreter finds first.
 
-    A name or version that is not valid by PEP 508 and PEP 440 is left out, and added to `left_out`.
+    A name or version that is not valid by PEP 508 and PEP 440 is left out, and added to `left_out`; of metadata
+    that can't be read, as that in another encoding than UTF-8, or in which one of both is missing, it is their path.
 
     >>> from fowlyore import Version
     >>> all(Version(version) for name, version in installed())
@@ -33,7 +34,12 @@ def installed(left_out: Optional[List[str]] = None) -> List[Tuple[str, str]]:
 
 
 def _name_and_version(distribution: importlib.metadata.Distribution) -> Tuple[str, str]:
+    """Its name and version; of one whose metadata can't be read, or have no name or version, its path and what is no version."""
     try:
-        return str(distribution.metadata["Name"]), str(distribution.version)
-    except (AttributeError, KeyError, TypeError):  # its metadata can't be read
-        return "None", "None"
+        metadata: Any = distribution.metadata
+        name, version = metadata.get("Name"), metadata.get("Version")
+        if name is not None and version is not None:
+            return str(name), str(version)
+    except (AttributeError, KeyError, TypeError, ValueError, OSError):
+        pass
+    return str(getattr(distribution, "_path", None)), "None"

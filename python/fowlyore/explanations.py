@@ -1,10 +1,11 @@
 """Why a row of `check` is `none`: which lines refuse the greatest candidates."""
 
+import itertools
 import re
 from bisect import bisect_left, bisect_right
 from dataclasses import dataclass
-from operator import attrgetter
-from typing import Dict, Iterable, Iterator, List, NamedTuple, Optional, Sequence, Set, Tuple
+from operator import attrgetter, itemgetter
+from typing import Dict, Iterable, Iterator, List, NamedTuple, Optional, Sequence, Set, Tuple, TypeVar
 
 from . import _native
 from .lists import (
@@ -24,6 +25,7 @@ BATCH = 1 << 21
 NAME_ROOM = 10
 # How many times more candidates a line is asked about in each round than in the one before.
 GROWTH = 8
+Asked = TypeVar("Asked")
 # The greatest number in a version.
 _GREATEST = (1 << 64) - 1
 # The name at the front of a requirement, and name and version on the line of a candidate.
@@ -138,6 +140,17 @@ class _Offer(NamedTuple):
         texts = sum(len(it.rest) for it in self.lines) + sum(len(str(it)) for it in self.versions)
         return texts + NAME_ROOM * (len(self.lines) + len(self.versions) + 2)
 
+    def parts(self) -> Iterator["_Offer"]:
+        """Offers of the same lines and of some of the candidates each, in their order, which are no more than a call takes."""
+        begin = size = 0
+        for at, it in enumerate(self.versions):
+            more = len(str(it)) + NAME_ROOM
+            if size + more > BATCH and at > begin:
+                yield _Offer(self.lines, self.versions[begin:at])
+                begin, size = at, 0
+            size += more
+        yield _Offer(self.lines, self.versions[begin:])
+
     def lines_of(self, name: str) -> str:
         """The lines as those of a package, with one that accepts all versions and lets pre-releases in: it
         names the lowest of all versions."""
@@ -156,15 +169,22 @@ class _Question:
     extras: Input
 
     def outcomes(self, offers: Iterable[_Offer]) -> Iterator[Tuple[_Offer, Row]]:
-        """Each offer with its row: the greatest candidate that all of its lines accept, except for those that
-        don't apply. In a call each offer is made under a package name of its own."""
-        for batch in _batches(offers):
-            numbered = [(str(at), it) for at, it in enumerate(batch)]
+        """Each offer with its row: the greatest candidate that all of its lines accept, except for those that don't
+        apply; of an offer of several parts that of the first part in which there is one."""
+        for whole, those in itertools.groupby(self._outcomes_of_parts(offers), itemgetter(0)):
+            rows = [row for _, row in those]
+            yield whole[1], next((it for it in rows if not it.is_none), rows[0])
+
+    def _outcomes_of_parts(self, offers: Iterable[_Offer]) -> Iterator[Tuple[Tuple[int, _Offer], Row]]:
+        """Each part of each offer, which has a number, with its row. In a call each is made under a package name of its own."""
+        parts = ((whole, it) for whole in enumerate(offers) for it in whole[1].parts())
+        for batch in _batches(parts):
+            numbered = [(str(at), it) for at, (_, it) in enumerate(batch)]
             asked = Input("requirements", "".join(it.lines_of(name) for name, it in numbered).encode())
             offered = Input("candidates", "".join(it.candidates_of(name) for name, it in numbered).encode())
             rows = rows_of(answered(_native.check, asked, self.environment, offered, self.extras))
             by_name = {it.name: it for it in rows}
-            yield from ((it, by_name[name]) for name, it in numbered)
+            yield from ((whole, by_name[str(at)]) for at, (whole, _) in enumerate(batch))
 
     def refusing(self, offers: Iterable[Tuple[_Asking, Sequence[Version]]]) -> Set[int]:
         """The numbers of the lines that accept none of the candidates that each is offered. A line that
@@ -173,16 +193,16 @@ class _Question:
         return {it.lines[0].number for it, row in self.outcomes(each) if row.is_none}
 
 
-def _batches(offers: Iterable[_Offer]) -> Iterator[List[_Offer]]:
-    """Offers in groups, each of which fits into one call."""
-    batch: List[_Offer] = []
+def _batches(parts: Iterable[Tuple[Asked, _Offer]]) -> Iterator[List[Tuple[Asked, _Offer]]]:
+    """Offers, and what they are parts of, in groups, each of which fits into one call."""
+    batch: List[Tuple[Asked, _Offer]] = []
     size = 0
-    for it in offers:
+    for whole, it in parts:
         more = it.size
         if size + more > BATCH and batch:
             yield batch
             batch, size = [], 0
-        batch.append(it)
+        batch.append((whole, it))
         size += more
     if batch:
         yield batch
@@ -449,9 +469,10 @@ def _exclusive_span(operator: str, named: Version, kind: _Kind) -> range:
 def _end_of(epoch: int, release: Sequence[int], public: List[Version]) -> int:
     """The index after the versions whose release begins with some numbers, or after all versions if none can
     be above these."""
-    *front, last = release
-    if last < _GREATEST:
-        return bisect_left(public, Version(f"{epoch}!{'.'.join(map(str, [*front, last + 1]))}.dev0"))
-    if front:
-        return _end_of(epoch, front, public)
+    numbers = list(release)
+    while numbers and numbers[-1] == _GREATEST:
+        numbers.pop()
+    if numbers:
+        numbers[-1] += 1
+        return bisect_left(public, Version(f"{epoch}!{'.'.join(map(str, numbers))}.dev0"))
     return len(public) if epoch == _GREATEST else bisect_left(public, Version(f"{epoch + 1}!0.dev0"))

@@ -16,8 +16,8 @@ from typing import NoReturn, Sequence, Union
 
 from . import core_metadata, projects
 from .listings import Listing, Place
-from .lists import unread
-from .pip_files import read_pip
+from .lists import read_whole, unread
+from .pip_files import read_list, read_pip
 
 __all__ = ["read", "read_text"]
 
@@ -88,14 +88,13 @@ def _of_kind(path: str, groups: Sequence[str]) -> Listing:
     if name.endswith(".tar.gz"):
         return core_metadata.read_archive(path)
     with open(path, "rb") as file:
-        data = file.read()
-    if name == PROJECT:
-        return projects.read_project(path, data, groups)
-    if projects.is_lock(name):
-        return projects.read_lock(path, data, groups)
-    if name in ("METADATA", "PKG-INFO") or name.endswith(".egg-info"):
-        return core_metadata.read_metadata(path, data)
-    return read_pip(path, data)
+        if name == PROJECT:
+            return projects.read_project(path, read_whole(path, file), groups)
+        if projects.is_lock(name):
+            return projects.read_lock(path, read_whole(path, file), groups)
+        if name in ("METADATA", "PKG-INFO") or name.endswith(".egg-info"):
+            return core_metadata.read_metadata(path, core_metadata.read_some(path, file))
+        return read_pip(path, read_list(path, file))
 
 
 def read_text(data: bytes) -> Listing:

@@ -12,6 +12,8 @@ from .conditions import truth
 
 # What an assumption about the interpreter's version is called, and one about an environment.
 REQUIRES_PYTHON, ENVIRONMENTS = "requires-python", "environments"
+# The bytes of the longest input that the library reads.
+LONGEST = 16_777_216
 # Where the comment of a line begins.
 COMMENT = re.compile(r"(?:^|\s)#")
 
@@ -286,13 +288,9 @@ class Listing:
                 texts.append(applying[0])
                 origins.append(applying[1])
                 size += len(applying[0])
-            if size > _LONGEST:
+            if size > LONGEST:
                 raise TooLong(origin[0].place(origin[1]))
         return Listing(self.path, texts, origins, left_out=self.left_out, assumed=self.assumed, extras=self.provided_extras)
-
-
-# The bytes of the longest list that the library reads.
-_LONGEST = 16_777_216
 
 
 class TooLong(ValueError):

@@ -2,21 +2,25 @@
 
 A list is given in one of four ways: a str or bytes is its text, a path (`pathlib.Path`) names a file with
 it, a `Listing` is what `read` has read of a file, and any other iterable has its lines: texts, or
-`Requirement`s."""
+`Requirement`s. Where a file can't be read, `OSError` is raised."""
 
+import enum
 import json
+import numbers
 import operator
 import os
 import re
 from dataclasses import dataclass, field
-from typing import Any, Callable, Iterable, Iterator, List, Mapping, Optional, Sequence, Set, Tuple, Type, TypeVar, Union
+from typing import (
+    Any, BinaryIO, Callable, Iterable, Iterator, List, Mapping, Optional, Sequence, Set, Tuple, Type, TypeVar, Union,
+)  # fmt: skip
 
 from . import _native
 from ._bounds import USUAL, Most, most_cases, most_clauses, most_nodes
 from .errors import Refused, characters, columns
 from .distributions import installed
-from .listings import COMMENT, ENVIRONMENTS, REQUIRES_PYTHON, Listing, Located, Place, TooLong
-from .markers import TooManyClauses, TooManyNodes, completed, environment_json
+from .listings import COMMENT, ENVIRONMENTS, LONGEST, REQUIRES_PYTHON, Listing, Located, Place, TooLong
+from .markers import TooManyClauses, TooManyNodes, completed, environment_json, of_mapping
 from .requirements import InvalidRequirement, Requirement
 from .specifiers import SpecifierSet
 from .urls import warn_of_marker_in
@@ -29,6 +33,8 @@ __all__ = [
 
 # How many cases a package may have in a table where no limit is named, and the greatest limit, as in `reqs`.
 LIMIT, GREATEST_LIMIT = 4096, 1_000_000
+# The bytes of the longest file that is read, of which the library gets something else.
+LONGEST_FILE = 268_435_456
 Requirements = Union[str, bytes, "os.PathLike[str]", Listing, Iterable[Union[str, Requirement]]]
 Environment = Union[None, str, bytes, "os.PathLike[str]", Mapping[str, str]]
 Environments = Union[str, bytes, "os.PathLike[str]", Iterable[Mapping[str, str]]]
@@ -51,6 +57,10 @@ _WITH_URL = re.compile(rb"@[^@;\n]*(?<!\s);")
 # A candidate's line that the library reads as one name and one version, or refuses.
 _CANDIDATE = re.compile(r"[^ #\n][^#\n]*")
 _WHITE = " \t\n\r\f"
+# What is in no name of an extra: what would end its line, and what isn't UTF-8, of which the library tells by a byte of all extras.
+_NO_NAME = re.compile("[\n\ud800-\udfff]")
+# What prints as a text that nobody meant, and that may be read as a name or a version.
+_NO_TEXTS = (bytes, bytearray, memoryview, numbers.Complex, os.PathLike, enum.Enum)
 # How the library refuses a package for the number of its cases, once it has read all inputs.
 _TOO_MANY_CASES = f"requirements: more than {LIMIT} cases for "
 # What stands between the elements of a JSON array.
@@ -202,6 +212,20 @@ class Input:
         return str(self.listing.place(number)) if self.listing else f"{self.path or self.name}: line {number}"
 
 
+def read_input(file: BinaryIO) -> bytes:
+    """The bytes of a file that go to the library as they stand; of one that is too long for it, or never ends, as many as
+    it takes for the library to refuse them."""
+    return file.read(LONGEST + 1)
+
+
+def read_whole(path: str, file: BinaryIO, name: str = "requirements", begun: bytes = b"") -> bytes:
+    """The bytes of any other file, of which some may have been read. One that is too long, or never ends, is refused."""
+    data = begun + file.read(LONGEST_FILE + 1 - len(begun))
+    if len(data) > LONGEST_FILE:
+        raise unread(Place(path), f"longer than {LONGEST_FILE} bytes", name)
+    return data
+
+
 def as_bytes(name: str, given: Any, otherwise: Callable[[Any], str]) -> Input:
     """An input that is a text, a path, or something that `otherwise` turns into a text; or one that was made
     before."""
@@ -212,7 +236,7 @@ def as_bytes(name: str, given: Any, otherwise: Callable[[Any], str]) -> Input:
     if isinstance(given, os.PathLike):
         path = os.fspath(given)
         with open(path, "rb") as file:
-            return Input(name, file.read(), os.fsdecode(path))
+            return Input(name, read_input(file), os.fsdecode(path))
     return Input(name, _native.encoded(given if isinstance(given, str) else otherwise(given)))
 
 
@@ -258,6 +282,8 @@ def _url_of(text: str) -> str:
 
 def _joined(name: str, lines: Iterable[Union[str, Requirement]]) -> str:
     """Lines as one text. Each may end with a line feed, as the lines of a file do, and has no other."""
+    if isinstance(lines, Mapping):
+        raise TypeError(f"{name}: lines are wanted, not a mapping, of which the values would be lost")
     texts = [_line(name, number, it) for number, it in enumerate(lines, 1)]
     return "".join(f"{it}\n" for it in texts)
 
@@ -266,7 +292,7 @@ def _line(name: str, number: int, given: Union[str, Requirement]) -> str:
     """One line without its end. A requirement isn't printed for it, since its marker may have no text that
     reads back."""
     try:
-        text = given._line() if isinstance(given, Requirement) else str(given).rstrip("\r\n")
+        text = given._line() if isinstance(given, Requirement) else _text_of("a requirement", given).rstrip("\r\n")
     except InvalidRequirement as error:
         raise InvalidInput(f"{name}: line {number}: {error}", input=name, text=error.text, line=number) from None
     if "\n" in text:
@@ -274,12 +300,26 @@ def _line(name: str, number: int, given: Union[str, Requirement]) -> str:
     return text
 
 
+def _text_of(what: str, given: object) -> str:
+    """The text of what prints as it was written, as a name, or a version of packaging. Raises `TypeError` for anything that
+    prints as another text than was meant, as 1.10 does, or a path. Of a str it is its characters, though a member of an
+    `Enum` prints as another text."""
+    if isinstance(given, str):
+        return str.__str__(given)
+    if given is None or isinstance(given, _NO_TEXTS):
+        raise TypeError(f"{what} is given as a str, not as {type(given).__name__}")
+    return str(given)
+
+
 def environment_input(given: Environment) -> Input:
     return as_bytes("environment", given, lambda it: environment_json(completed(it)).decode())
 
 
 def environments_input(given: Environments) -> Input:
-    return as_bytes("environments", given, lambda those: f"[{','.join(environment_json(it).decode() for it in those)}]")
+    def joined(those: Iterable[Mapping[str, str]]) -> str:
+        return ",".join(environment_json(of_mapping(it)).decode() for it in those)
+
+    return as_bytes("environments", given, lambda those: f"[{joined(those)}]")
 
 
 def candidates_input(given: Candidates) -> Input:
@@ -289,31 +329,48 @@ def candidates_input(given: Candidates) -> Input:
 def _candidate_lines(given: Any) -> str:
     """A line for each candidate, which the library reads as exactly this candidate."""
     pairs = _candidate_pairs(given) if isinstance(given, Mapping) else list(given)
-    if any(isinstance(it, str) for it in pairs):
+    if any(issubclass(it, str) for it in set(map(type, pairs))):
         raise TypeError("a candidate is a pair of a name and a version, not a text")
-    text = "".join([f"{name} {version}\n" for name, version in pairs])
-    # (a comment, an empty name and a line feed, looked for in all of them at once)
-    if "#" in text or "\n " in f"\n{text}" or text.count("\n") != len(pairs):
-        return "".join(_candidate_line(*it) for it in pairs)
-    return text
+    names: List[Any] = []
+    versions: List[Any] = []
+    try:
+        for name, version in pairs:
+            names.append(name)
+            versions.append(version)
+    except (TypeError, ValueError):  # of another number of values, or of none
+        raise TypeError(f"a candidate is a pair of a name and a version, not {pairs[len(names)]!r}") from None
+    if {str}.issuperset(map(type, names)) and {str, Version}.issuperset(map(type, versions)):
+        text, joined = "".join([f"{name} {version}\n" for name, version in zip(names, versions)]), "".join(names)
+        # (a comment, an empty name, white space in one and a line feed, looked for in all of them at once)
+        if "#" not in text and "\n " not in f"\n{text}" and joined.split() == [joined] and text.count("\n") == len(names):
+            return text
+    return "".join(map(_candidate_line, names, versions))
 
 
 def _candidate_line(name: str, version: Union[str, Version]) -> str:
-    line = f"{str(name).strip(_WHITE)} {str(version).strip(_WHITE)}"
-    if not _CANDIDATE.fullmatch(line):
+    parts = [_text_of(what, it).strip(_WHITE) for what, it in (("a name", name), ("a version", version))]
+    line = " ".join(parts)
+    if not _CANDIDATE.fullmatch(line) or parts[0].split() != parts[:1]:
         raise InvalidInput(f"candidates: {line!r} is no name with a version", input="candidates")
     return f"{line}\n"
 
 
 def _candidate_pairs(given: Mapping[str, Any]) -> List[Tuple[str, Union[str, Version]]]:
     """The pairs of a mapping, in which a single version needs no list."""
-    of_names = ((name, [it] if isinstance(it, (str, Version)) else it) for name, it in given.items())
-    return [(name, version) for name, versions in of_names for version in versions]
+    return [(name, version) for name, it in given.items() for version in _versions_of(name, it)]
+
+
+def _versions_of(name: Any, given: Any) -> Iterator[Union[str, Version]]:
+    """The versions that a mapping has for a name."""
+    try:
+        return iter([given] if isinstance(given, (str, Version)) else given)
+    except TypeError:
+        raise TypeError(f"the versions of {name!r} are one str or several, not {type(given).__name__}") from None
 
 
 def extras_input(given: Extras) -> Input:
     extras = [given] if isinstance(given, str) else list(given)
-    if any("\n" in it or not it for it in extras):
+    if any(not isinstance(it, str) or not it or _NO_NAME.search(it) for it in extras):
         raise InvalidInput(f"extras: {extras!r}: an extra is a name", input="extras")
     return Input("extras", _native.encoded("\n".join(extras)))
 
@@ -340,7 +397,9 @@ def _checked(limit: int) -> int:
     """A limit that `reqs` accepts: the library gets 64 bits of it, and sees no others."""
     number = operator.index(limit)
     if not 0 <= number <= GREATEST_LIMIT:
-        raise InvalidInput(f"limit: {number} is not from 0 to {GREATEST_LIMIT}", input="limit")
+        # (a number of some thousand digits has no text)
+        said = number if abs(number) < 1 << 64 else "a number past 64 bits"
+        raise InvalidInput(f"limit: {said} is not from 0 to {GREATEST_LIMIT}", input="limit")
     return number
 
 
@@ -348,15 +407,21 @@ def _refusal(fault: _native.Fault, inputs: Sequence[Input]) -> InvalidInput:
     if not 1 <= fault.input <= len(inputs):
         return InvalidInput(fault.message)
     given = inputs[fault.input - 1]
-    if not fault.line:
+    number, first, length = fault.line, fault.start, fault.length
+    is_no_text = fault.message == f"{given.name}: not UTF-8 at byte {first}"
+    if is_no_text:
+        # (the library tells of a byte of the whole text)
+        number, first, length = given.text.count(b"\n", 0, first) + 1, first - given.text.rfind(b"\n", 0, first) - 1, 1
+    if not number:
         return InvalidInput(fault.message, input=given.name, path=given.path)
-    line = given.text.split(b"\n")[fault.line - 1]
-    start, end = characters(line, fault.start, fault.length) if fault.start or fault.length else (None, None)
+    line = given.text.split(b"\n")[number - 1]
+    start, end = characters(line, first, length) if first or length else (None, None)
     text = line.decode("utf-8", "replace")
     if given.listing is not None:
-        return _told_where(fault.message, given.name, given.listing.located(fault.line, start or 0, end or 0))
+        at = given.listing.located(number, start or 0, end or 0)
+        return unread(at.place, "not UTF-8", given.name, at.text) if is_no_text else _told_where(fault.message, given.name, at)
     return InvalidInput(
-        fault.message, input=given.name, path=given.path, text=text, line=fault.line, start=start, end=end
+        fault.message, input=given.name, path=given.path, text=text, line=number, start=start, end=end
     )
 
 
@@ -553,12 +618,17 @@ def matrix_texts(
 
 def _names_of(text: str) -> Set[str]:
     """The names of rows."""
-    return {it.split(" ", 1)[0].split("[", 1)[0] for it in _native.lines_of(text)}
+    return set(map(_name_of, _native.lines_of(text)))
+
+
+def _name_of(row: str) -> str:
+    """The name of a row."""
+    return row.split(" ", 1)[0].split("[", 1)[0]
 
 
 def _rows_of_names(text: str, names: Set[str]) -> str:
     """The rows of some names."""
-    return "".join(f"{it}\n" for it in _native.lines_of(text) if it.split(" ", 1)[0].split("[", 1)[0] in names)
+    return "".join(f"{it}\n" for it in _native.lines_of(text) if _name_of(it) in names)
 
 
 def _texts_of_matrix(
@@ -682,8 +752,8 @@ def conflicts(
     answer = answered(_native.conflicts, given, numbers=numbers)
     found = []
     for line in _native.lines_of(answer):
-        name, numbers, *pre = line.split(" ")
-        found.append(Conflict(name, tuple(map(int, numbers.split(","))), bool(pre)))
+        name, lines, *pre = line.split(" ")
+        found.append(Conflict(name, tuple(map(int, lines.split(","))), bool(pre)))
     return found if given.listing is None else _placed(found, given.listing)
 
 

@@ -11,6 +11,7 @@ from typing import TYPE_CHECKING, Any, Callable, Dict, Iterable, List, Literal, 
 
 from . import _native
 from ._bounds import USUAL, Most, most_clauses, most_nodes
+from ._cached import keep
 from .errors import Refused, on_one_line, refusal
 from .version import InvalidVersion, Version, text_of
 
@@ -61,7 +62,7 @@ class UndefinedComparison(ValueError):
 
 
 class UndefinedEnvironmentName(Refused):
-    """An environment lacks a value, or has an invalid version."""
+    """An environment lacks a value, or has an invalid version or a value that isn't a text; or an extra is no name."""
 
 
 def default_environment() -> Dict[str, str]:
@@ -144,10 +145,17 @@ def completed(given: Optional[Mapping[str, Any]]) -> Dict[str, Any]:
     return _completed(_running(), given)
 
 
+def of_mapping(given: Mapping[str, Any]) -> Mapping[str, Any]:
+    """An environment that is given as a mapping; of pairs what is looked for in a mapping wouldn't be found."""
+    if not hasattr(given, "keys"):
+        raise TypeError(f"an environment is a mapping, not {type(given).__name__}")
+    return given
+
+
 def _completed(running: Dict[str, str], given: Optional[Mapping[str, Any]]) -> Dict[str, Any]:
     environment: Dict[str, Any] = dict(running)
     if given is not None:
-        environment.update(given)
+        environment.update(of_mapping(given))
         if "python_version" in given and "python_full_version" not in given:
             environment["python_full_version"] = given["python_version"]
     return environment
@@ -162,12 +170,6 @@ _kept_answers: Dict[Tuple[str, bytes, Any], bool] = {}
 _MOST_KEPT, _MOST_ANSWERS = 64, 4096
 
 
-def _keep(kept: Dict[Any, Any], asked: Any, answer: Any, most: int) -> None:
-    if len(kept) >= most:
-        kept.clear()
-    kept[asked] = answer
-
-
 def environment_json(environment: Mapping[str, Any]) -> bytes:
     """The JSON that the library reads of an environment: its members as they are, except that
     `python_full_version` is `full_version_read`."""
@@ -177,13 +179,13 @@ def environment_json(environment: Mapping[str, Any]) -> bytes:
     made = _kept_json.get(values)
     if made is None:
         made = _json_of(environment)
-        _keep(_kept_json, values, made, _MOST_KEPT)
+        keep(_kept_json, values, made, _MOST_KEPT, len(made))
     return made
 
 
 def _read_environment(given: Optional[Mapping[str, Any]]) -> Tuple[bytes, Any]:
     """The JSON of the running interpreter's environment with other values put in, and the extra there."""
-    running, items = _running(), tuple(given.items()) if given else ()
+    running, items = _running(), tuple(of_mapping(given).items()) if given else ()
     try:
         kept = _kept_given.get(items)
     except TypeError:  # a value that can't be hashed
@@ -192,7 +194,7 @@ def _read_environment(given: Optional[Mapping[str, Any]]) -> Tuple[bytes, Any]:
         values = _completed(running, given)
         kept = running, environment_json(values), values.get("extra")
         if {str}.issuperset(type(it) for _, it in items):
-            _keep(_kept_given, items, kept, _MOST_KEPT)
+            keep(_kept_given, items, kept, _MOST_KEPT, sum(len(str(it)) for item in items for it in item))
     return kept[1:]
 
 
@@ -201,7 +203,11 @@ def _json_of(environment: Mapping[str, Any]) -> bytes:
     full = values.get("python_full_version")
     if isinstance(full, str):
         values["python_full_version"] = full_version_read(full, values.get("python_version"))
-    return json.dumps(values).encode()
+    try:
+        return json.dumps(values).encode()
+    except (TypeError, ValueError, RecursionError):
+        # (the library refuses what is no text, and so what JSON has no value for)
+        return json.dumps({key: it if isinstance(it, str) else None for key, it in values.items()}).encode()
 
 
 def full_version_read(full: str, short: object) -> str:
@@ -218,7 +224,7 @@ def full_version_read(full: str, short: object) -> str:
     >>> full_version_read("3.14.0rc1", "3.14"), full_version_read("3.14.0+", "3.14"), full_version_read("3.14.0rc1", "3.13")
     ('3.14.0', '3.14.0', '3.14.0rc1')
     """
-    text = f"{full}local" if full.endswith("+") else full
+    text = full + "local" if full.endswith("+") else full
     if text.replace(".", "").isdecimal():
         return text
     try:
@@ -270,12 +276,14 @@ class Marker:
     "python_full_version >= '3.8' and os_name == 'nt'"
     """
 
-    __slots__ = ("_given", "_truth", "_key", "_text", "_joined", "_is_ignored", "_found_shape", "__weakref__")
+    __slots__ = ("_given", "_truth", "_key", "_text", "_beyond", "_joined", "_is_ignored", "_found_shape", "__weakref__")
 
     _given: str
     _truth: Optional[bytes]
     _key: Optional[bytes]
     _text: Optional[str]
+    # The bounds on nodes and clauses within which a normal text wasn't made.
+    _beyond: Optional[Tuple[int, int]]
     # The two that `&` or `|` made it of, and whether it was `&`; nothing once its text is known.
     _joined: "Union[Tuple[()], Tuple[Marker, Marker, bool]]"
     _is_ignored: Optional[bool]
@@ -294,7 +302,7 @@ class Marker:
 
     def _set(self, given: str) -> None:
         self._given, self._joined = given, ()
-        self._truth = self._key = self._text = self._is_ignored = self._found_shape = None
+        self._truth = self._key = self._text = self._beyond = self._is_ignored = self._found_shape = None
 
     if not TYPE_CHECKING:
 
@@ -305,7 +313,7 @@ class Marker:
                 self._given = text = _text_of_joined(self)
                 self._joined = ()
                 return text
-            if name in ("_truth", "_key", "_text", "_is_ignored", "_found_shape"):
+            if name in ("_truth", "_key", "_text", "_beyond", "_is_ignored", "_found_shape"):
                 return None
             raise AttributeError(f"{type(self).__name__!r} object has no attribute {name!r}")
 
@@ -324,14 +332,25 @@ class Marker:
         'x'==platform.version
         """
         if self._text is None:
-            self._text = self._normal_text() or self._given
+            text = self._normal_text() or self._given
+            if self._beyond is not None:
+                return text
+            self._text = text
         return self._text
 
     def _normal_text(self) -> str:
-        try:
-            return _native.marker(self._bytes(), most_nodes(), most_clauses())
-        except _native.Fault:
+        """The normal text, and an empty text if there is none, or none is made within `bounds`."""
+        within = most_nodes(), most_clauses()
+        if self._beyond is not None and within[0] <= self._beyond[0] and within[1] <= self._beyond[1]:
             return ""
+        self._beyond = None
+        try:
+            return _native.marker(self._bytes(), *within)
+        except (_native.TooManyNodes, _native.TooManyClauses):
+            self._beyond = within
+        except _native.Fault:
+            pass
+        return ""
 
     def __repr__(self) -> str:
         return f"<Marker({str(self)!r})>"
@@ -346,6 +365,9 @@ class Marker:
 
     def _asked(self, call: Callable[..., Any], nodes: int, *others: "Marker") -> Any:
         """What a call answers on this marker and others, within a bound on the nodes."""
+        for it in others:
+            if not isinstance(it, Marker):
+                raise TypeError(f"a Marker is compared with a Marker, not with {type(it).__name__}")
         asked = self, *others
         try:
             return call(*(it._bytes() for it in asked), nodes)
@@ -524,7 +546,7 @@ class Marker:
         if answer is None:
             names = _native.encoded(_lines_of([extra])) if extra else b""
             answer = _answers([self], f"{self._given}\n", values, names) == b"1"
-            _keep(_kept_answers, asked, answer, _MOST_ANSWERS)
+            keep(_kept_answers, asked, answer, _MOST_ANSWERS, len(self._given) + len(values) + len(names))
         return answer
 
 
@@ -611,7 +633,7 @@ def _lines_of(extras: Iterable[str]) -> str:
     here."""
     lines = list(extras)
     for it in lines:
-        if "\n" in it or not it:
+        if not isinstance(it, str) or "\n" in it or not it:
             raise UndefinedEnvironmentName(f"extra {it!r} is no name")
     return "\n".join(lines)
 

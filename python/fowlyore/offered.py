@@ -3,6 +3,8 @@ lock file."""
 
 import itertools
 import json
+import math
+import operator
 import os
 import re
 from pathlib import Path
@@ -10,7 +12,7 @@ from typing import Any, Dict, Iterable, List, NoReturn, Optional, Tuple, Union
 
 from .core_metadata import python_of
 from .listings import LeftOut, Place
-from .lists import InvalidInput, decoded, unread
+from .lists import InvalidInput, decoded, read_whole, unread
 from .progress import Progress
 from .projects import is_lock, locked_versions
 from .specifiers import InvalidSpecifier, SpecifierSet
@@ -38,7 +40,8 @@ class _Interpreter:
     def __init__(self, python: Optional[str], tags: Optional[Iterable[object]]) -> None:
         self.python = python
         self._release = None if python is None else Version(python).base_version
-        self._tags = None if tags is None else frozenset(str(it).lower() for it in tags)
+        each: Optional[Iterable[object]] = [tags] if isinstance(tags, str) else tags
+        self._tags = None if each is None else frozenset(str.lower(it if isinstance(it, str) else str(it)) for it in each)
         self._answers: Dict[str, bool] = {}
 
     def has_tag_of(self, filename: str) -> bool:
@@ -46,8 +49,12 @@ class _Interpreter:
         found = _WHEEL.fullmatch(filename)
         if found is None or self._tags is None:
             return True
-        sets = (it.lower().split(".") for it in found.group(3, 4, 5))
-        return any("-".join(it) in self._tags for it in itertools.product(*sets))
+        sets = [it.lower().split(".") for it in found.group(3, 4, 5)]
+        if math.prod(map(len, sets)) <= len(self._tags):
+            return any("-".join(it) in self._tags for it in itertools.product(*sets))
+        # (a name may have a thousand texts in each part)
+        wanted = [frozenset(it) for it in sets]
+        return any(all(map(operator.contains, wanted, it.split("-"))) for it in self._tags if it.count("-") == 2)
 
     def is_in(self, requires_python: str) -> bool:
         """Whether the interpreter is one that a file asks for; as pip does, by the numbers of its release,
@@ -83,6 +90,8 @@ def wheelhouse(
     `tags` are those of an interpreter, as `packaging.tags.sys_tags()` or their texts: wheels without any of
     these aren't candidates. `python` is its version: files of which the metadata ask for another one aren't,
     but other archives than `.tar.gz`, which are not looked into. Where one isn't given, it is not looked at.
+
+    Raises `InvalidVersion` for a `python` that is no version, and `OSError` where the folder can't be read.
 
     >>> import pathlib, tempfile
     >>> folder = pathlib.Path(tempfile.mkdtemp())
@@ -158,8 +167,8 @@ def read_candidates(
     a folder. Any other file is a list of candidates, and its path is the answer. `left_out` is told what is
     left out.
 
-    Raises `InvalidInput` for what can't be read, by its table or member, and `OSError` where the file can't
-    be.
+    Raises `InvalidInput` for what can't be read, by its table or member, `InvalidVersion` for a `python` that is
+    no version, and `OSError` where the file can't be read.
 
     >>> import tempfile
     >>> path = Path(tempfile.mkdtemp(), "foo.json")
@@ -174,7 +183,7 @@ def read_candidates(
     if not is_locked and not name.endswith(".json"):
         return Path(name)
     with open(name, "rb") as file:
-        data = file.read()
+        data = read_whole(name, file, "candidates")
     if not is_locked:
         return _of_page(name, data, left_out, _Interpreter(python, tags))
     found, more = locked_versions(name, data)

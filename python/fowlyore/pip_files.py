@@ -8,13 +8,13 @@ own parser is what the tests hold this against.
 import codecs
 import os
 import re
-from typing import Any, Dict, Iterator, List, NamedTuple, NoReturn, Optional, Set, Tuple
+from typing import Any, BinaryIO, Dict, Iterator, List, NamedTuple, NoReturn, Optional, Set, Tuple
 
 from . import _native
-from .listings import COMMENT, LeftOut, Listing, Located, Origin, Place, Source
-from .lists import decoded, refused, unread
+from .listings import COMMENT, LONGEST, LeftOut, Listing, Located, Origin, Place, Source
+from .lists import InvalidInput, decoded, read_input, read_whole, refused, unread
 
-__all__ = ["read_pip"]
+__all__ = ["read_list", "read_pip"]
 
 # How deep files may name one another.
 DEEPEST = 50
@@ -90,6 +90,9 @@ class _File(Source):
     def __init__(self, path: str, text: str) -> None:
         self.path = path
         self.lines = text.splitlines()
+        count = text.count("\n") + (text[-1:] not in ("", "\n"))
+        # (most files have no other end of a line than a line feed)
+        self.has_hidden_lines = len(self.lines) != count and any(map(_hides_lines, text.split("\n")))
         low = text.lower()
         self.has_archives = "${" in text or any(it in low for it in _ARCHIVES)
 
@@ -162,6 +165,17 @@ def _unexpanded(text: str, at: int, is_end: bool) -> int:
     return min(at, len(text))
 
 
+def _hides_lines(line: str) -> bool:
+    """Whether a line, which ends in a line feed, has a comment for the library over lines that it doesn't have for pip."""
+    is_hidden = False
+    for it in line.splitlines():
+        front, *comment = COMMENT.split(it, maxsplit=1)
+        if is_hidden and front.strip():
+            return True
+        is_hidden = is_hidden or bool(comment)
+    return False
+
+
 def _logical_lines(lines: List[str]) -> Iterator[Tuple[int, str]]:
     """Lines without comments and the white space around them, those that a backslash joins as one, with the
     number of its first line; without those of which nothing is left."""
@@ -180,6 +194,18 @@ def _logical_lines(lines: List[str]) -> Iterator[Tuple[int, str]]:
             yield number, text
 
 
+def read_list(path: str, file: BinaryIO) -> bytes:
+    """The bytes of a requirements file of pip, or of a plain list. What is longer than a list may be, or never ends, is refused
+    as the library refuses it, unless something of pip's may be in what a list may have, and then what is longer than any file
+    may be."""
+    data = read_input(file)
+    if len(data) <= LONGEST:
+        return data
+    if _coding_of(data) is None and _is_plain(data, is_whole=False):
+        raise unread(Place(path), f"longer than {LONGEST} bytes")
+    return read_whole(path, file, begun=data)
+
+
 def read_pip(path: str, data: bytes) -> Listing:
     """The list of a requirements file of pip, or of a plain list, whose bytes are handed in.
 
@@ -192,8 +218,7 @@ def read_pip(path: str, data: bytes) -> Listing:
     list.txt: line 1: left out: --pre (an option of pip)
     """
     coding = _coding_of(data)
-    if coding is None and not (_is_utf8(data) and _may_be_pips(data)):
-        # (what isn't UTF-8 the library tells of)
+    if coding is None and _is_plain(data):
         return Listing.of_plain(path, data)
     reading = _Reading(is_pips=coding is not None)
     reading.read_root(_File(path, _text(path, data, coding)))
@@ -202,6 +227,12 @@ def read_pip(path: str, data: bytes) -> Listing:
     return Listing(
         path, reading.texts, reading.origins, constraints=reading.constraints, left_out=reading.left_out
     )  # fmt: skip
+
+
+def _is_plain(data: bytes, is_whole: bool = True) -> bool:
+    """Whether nothing of a file is pip's, which names no encoding; a quick answer, of which only yes is sure."""
+    # (what isn't UTF-8 the library tells of)
+    return not (_is_utf8(data, is_whole) and _may_be_pips(data))
 
 
 def _may_be_pips(data: bytes) -> bool:
@@ -246,9 +277,10 @@ def _is_same(data: bytes, encoding: str) -> bool:
         return False
 
 
-def _is_utf8(data: bytes) -> bool:
+def _is_utf8(data: bytes, is_whole: bool) -> bool:
+    """Whether bytes are UTF-8; where they aren't the whole, the last character may lack some."""
     try:
-        data.decode("utf-8")
+        codecs.utf_8_decode(data, "strict", is_whole)
     except UnicodeDecodeError:
         return False
     return True
@@ -293,7 +325,7 @@ class _Reading:
 
     def _read(self, file: _File, is_constraint: bool) -> None:
         """Takes in the lines of a file, and where it names another one those of that."""
-        self.is_pips |= any(it.endswith("\\") and not _IS_COMMENT.match(it) for it in file.lines)
+        self.is_pips |= file.has_hidden_lines or any(it.endswith("\\") and not _IS_COMMENT.match(it) for it in file.lines)
         for number, text in _logical_lines(file.lines):
             given = text
             if "${" in text:
@@ -421,7 +453,12 @@ class _Reading:
             return
         path = os.path.join(os.path.dirname(file.path), named)
         where = file.located(number, max(0, text.find(named)), len(text))
-        key = _key_of(path)
+        try:
+            if b"\0" in os.fsencode(path):
+                raise ValueError(path)
+            key = _key_of(path)
+        except ValueError:  # of a NUL, or of half a surrogate pair
+            raise refused(where, f"{path!r} is no path") from None
         is_constraint = option == "-c"
         if key in self._within:
             raise refused(where, f"{path} is being read: it names itself, or a file that names it")
@@ -446,7 +483,9 @@ def _text_of(path: str, where: Located) -> str:
     """The text of a file that another one names at a place."""
     try:
         with open(path, "rb") as file:
-            data = file.read()
+            data = read_list(path, file)
+    except InvalidInput:
+        raise
     except (OSError, ValueError) as error:
         raise refused(where, f"{path}: {getattr(error, 'strerror', None) or error}") from None
     return _text(path, data, _coding_of(data))

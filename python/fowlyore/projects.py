@@ -94,9 +94,10 @@ class Lines:
             why = f"of the project itself, which has to be asked for by name: {error}"
             self.left_out += (LeftOut(it.text, it.place, why) for it in self._references)
             return
+        there = None if extras is None else frozenset(extras)
         for it in self._references:
             for extra in it.extras:
-                if extras is not None and extra not in extras:
+                if there is not None and extra not in there:
                     self.left_out.append(LeftOut(it.text, it.place, f"there is no extra {extra}"))
 
     def listing(self, extras: Optional[Sequence[str]] = None) -> Listing:
@@ -258,17 +259,17 @@ def _add_project(document: _Document, lines: Lines, project: Dict[str, Any]) -> 
     for place, text in document.texts(project.get("dependencies", []), "project.dependencies"):
         lines.add(place, text)
     of_extras = document.member(project, "project", "optional-dependencies", dict, {})
-    extras: List[str] = []
+    extras: Dict[str, None] = {}
     for name, given in of_extras.items():
         where = f"project.optional-dependencies.{_key(name)}"
         extra = document.name(name, where)
         if extra in extras:
             document.refuse(where, f"the extra {extra} is there twice")
-        extras.append(extra)
+        extras[extra] = None
         for place, text in document.texts(given, where):
             lines.add(place, text, f"extra == '{extra}'")
     lines.own = ""
-    return extras
+    return [*extras]
 
 
 def _key(name: str) -> str:

@@ -44,6 +44,8 @@ class Requirement:
 
     def __init__(self, requirement_string: str) -> None:
         text = requirement_string
+        if "_given" in vars(self):
+            raise TypeError("a requirement is made once")
         if not isinstance(text, str):
             raise TypeError(f"a requirement is read from a str, not from {type(text).__name__}")
         on_one_line(InvalidRequirement, text)
@@ -125,7 +127,8 @@ class Requirement:
 
     def _condition(self) -> Optional[Marker]:
         """The marker, or None if it always holds."""
-        return None if self.marker is None or self.marker.is_true() else self.marker
+        marker = _marker_or_none(self.marker)
+        return None if marker is None or marker.is_true() else marker
 
     def _text(self, marker: str) -> str:
         """The text of its parts, with this marker text; without a marker if that is empty."""
@@ -154,4 +157,14 @@ class Requirement:
 
 def given_text(marker: Optional[Marker]) -> str:
     """A marker's text as it was given; empty for None."""
-    return "" if marker is None else marker._given
+    known = _marker_or_none(marker)
+    return "" if known is None else known._given
+
+
+def _marker_or_none(marker: object) -> Optional[Marker]:
+    """What was set as a requirement's marker, which may be anything."""
+    if marker is None:
+        return None
+    if isinstance(marker, Marker):
+        return marker
+    raise TypeError(f"a requirement's marker is a Marker or None, not {type(marker).__name__}")

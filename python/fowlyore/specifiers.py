@@ -112,9 +112,14 @@ def _line(version: UnparsedVersion) -> str:
 def _takes_no_version(specifiers: bytes, text: UnparsedVersion) -> bool:
     """Whether a list of specifiers accepts a text that the library doesn't read. Raises `InvalidVersion` if
     with smaller numbers, and without white space around it, it would be a version."""
-    if is_version(_MANY_DIGITS.sub("0", str(text)).strip()):
-        Version(str(text))
+    if is_version(_MANY_DIGITS.sub("0", _text(text)).strip()):
+        Version(_text(text))
     return not specifiers
+
+
+def _text(given: object) -> str:
+    """The text of what is one, or prints as one."""
+    return given if isinstance(given, str) else str(given)
 
 
 def _is_prerelease(version: UnparsedVersion) -> bool:
@@ -138,6 +143,12 @@ def _of_ranges(call: Callable[..., bool], *given: "Ranged") -> bool:
         raise InvalidSpecifier(f"{text!r} has no range: {fault.message}", text=text) from None
 
 
+def _want_new(made: "Union[Specifier, SpecifierSet]") -> None:
+    """Refuses to make again what was made: it would keep what is known of the one before."""
+    if hasattr(made, "_bytes"):
+        raise TypeError("specifiers are made once")
+
+
 class Specifier:
     """One specifier: an operator and a version.
 
@@ -154,6 +165,7 @@ class Specifier:
     _names_one: bool
 
     def __init__(self, spec: str = "", prereleases: Optional[bool] = None) -> None:
+        _want_new(self)
         members = _members(spec)
         if len(members) != 1:
             raise InvalidSpecifier(f"Invalid specifier: {spec!r}: {len(members)} specifiers, not one", text=spec, line=1)
@@ -313,16 +325,16 @@ class SpecifierSet:
     ['1.2']
     """
 
-    __slots__ = ("_bytes", "_given", "_made", "_compared", "_prereleases", "_names_one", "__weakref__")
+    __slots__ = ("_bytes", "_given", "_made", "_compared", "_prereleases", "__weakref__")
     __match_args__ = ("_str",)
 
     _made: Tuple[Specifier, ...]
     _compared: FrozenSet[Specifier]
-    _names_one: bool
 
     def __init__(
         self, specifiers: Union[str, Iterable[Union[str, Specifier]]] = "", prereleases: Optional[bool] = None
     ) -> None:
+        _want_new(self)
         if isinstance(specifiers, str):
             # Empty members are passed over, as packaging does.
             self._given = ",".join(it for it in specifiers.split(",") if it.strip())
@@ -356,11 +368,11 @@ class SpecifierSet:
         None if none does."""
         if self._prereleases is not None:
             return self._prereleases
-        try:
-            return self._names_one or None
-        except AttributeError:
-            self._names_one = any(it.prereleases for it in self._specs)
-            return self._names_one or None
+        # (of a member it may have been set meanwhile)
+        for it in self._specs:
+            if it.prereleases:
+                return True
+        return None
 
     @prereleases.setter
     def prereleases(self, value: Optional[bool]) -> None:
@@ -403,7 +415,7 @@ class SpecifierSet:
 
     def __eq__(self, other: object) -> bool:
         if isinstance(other, (str, Specifier)):
-            other = SpecifierSet(str(other))
+            other = SpecifierSet(_text(other))
         elif not isinstance(other, SpecifierSet):
             return NotImplemented
         return self._distinct == other._distinct

@@ -3,12 +3,12 @@
 
 What a name is, and what a version is, is the library's answer."""
 
-import functools
 import itertools
 import re
-from typing import FrozenSet, List, NamedTuple, NewType, Tuple, Type, Union
+from typing import Dict, FrozenSet, List, NamedTuple, NewType, Tuple, Type, Union
 
 from . import _native
+from ._cached import keep
 from .errors import Kind, Refused
 from .version import InvalidVersion, Version
 
@@ -74,13 +74,22 @@ class Tag(NamedTuple):
         return "-".join(self)
 
 
-# How many names and tags of wheels are kept with what was found for them.
-_KEPT = 4096
+# What was found for names, and for the tags of wheels; and how many of each are kept.
+_kept_names: Dict[str, str] = {}
+_kept_tags: Dict[Tuple[str, ...], FrozenSet[Tag]] = {}
+_MOST_KEPT = 4096
 
 
-@functools.lru_cache(maxsize=_KEPT)
 def normal_name(name: str) -> str:
     """A name's normal form, or an empty text if it is not a name."""
+    normal = _kept_names.get(name)
+    if normal is None:
+        normal = _read_name(name)
+        keep(_kept_names, name, normal, _MOST_KEPT, len(name))
+    return normal
+
+
+def _read_name(name: str) -> str:
     if not _NAME.fullmatch(name):
         return ""
     try:
@@ -125,12 +134,15 @@ def canonicalize_version(version: Union[Version, str], *, strip_trailing_zero: b
     try:
         made = version if isinstance(version, Version) else Version(version)
     except InvalidVersion:
-        return str(version)
+        return version if isinstance(version, str) else str(version)
     normal = str(made)
     if not strip_trailing_zero:
         return normal
     base = made.base_version
-    return re.sub(r"(?:\.0)+\Z", "", base) + normal[len(base) :]
+    numbers = base.split(".")
+    while numbers[-1] == "0" and len(numbers) > 1:
+        numbers.pop()
+    return ".".join(numbers) + normal[len(base) :]
 
 
 def parse_wheel_filename(
@@ -167,11 +179,14 @@ def parse_wheel_filename(
     return name, version, build, _tags_of(*parts[-3:])
 
 
-@functools.lru_cache(maxsize=_KEPT)
 def _tags_of(*parts: str) -> FrozenSet[Tag]:
     """Each tag that has a text of each of three parts, between whose texts are `.`."""
-    lowered = (part.lower().split(".") for part in parts)
-    return frozenset(itertools.starmap(Tag, itertools.product(*lowered)))
+    tags = _kept_tags.get(parts)
+    if tags is None:
+        lowered = (part.lower().split(".") for part in parts)
+        tags = frozenset(itertools.starmap(Tag, itertools.product(*lowered)))
+        keep(_kept_tags, parts, tags, _MOST_KEPT, sum(map(len, parts)) * len(tags))
+    return tags
 
 
 def _build_of(filename: str, parts: List[str]) -> BuildTag:

@@ -82,11 +82,14 @@ class Version:
             buffer = _native.new_buffer()
         length = _key_of(text, len(text), buffer, _SIZE)
         if 0 <= length <= _SIZE:
-            self._key = buffer[:length]
+            key = buffer[:length]
             _give_buffer(buffer)
         else:
-            self._key = _long_key(version, text)
-        self._given = version
+            key = _long_key(version, text)
+        if hasattr(self, "_given"):
+            raise TypeError("a version is made once")
+        # (what has a class of its own may print, and be pickled, as something else)
+        self._key, self._given = key, version if type(version) is str else str.__str__(version)
 
     def _refuse(self, version: str) -> None:
         """Raises the error for what is no version."""
@@ -316,35 +319,40 @@ def text_of_parts(parts: Parts) -> str:
     """The text of a version with these parts, any but the release being None or 0 where it has none. Raises
     `InvalidVersion` for a part of another form."""
     epoch, release = parts.epoch or 0, (0,) if parts.release is None else parts.release
-    _want(_is_number(epoch), "epoch", "a number that is not negative", epoch)
+    _want(_is_number(epoch), "epoch", "a number from 0 to 2^64 - 1", epoch)
     is_release = isinstance(release, tuple) and bool(release) and all(map(_is_number, release))
-    _want(is_release, "release", "a tuple of numbers that are not negative", release)
+    _want(is_release, "release", "a tuple of numbers from 0 to 2^64 - 1", release)
     text = (f"{epoch:d}!" if epoch else "") + ".".join(f"{it:d}" for it in release)
     if parts.pre is not None:
         letter, number = parts.pre if isinstance(parts.pre, tuple) and len(parts.pre) == 2 else ("", -1)
         letter = normalize_pre(letter) if isinstance(letter, str) else ""
         is_pre = letter in ("a", "b", "rc") and _is_number(number)
-        _want(is_pre, "pre", "a pair of 'a', 'b' or 'rc' and a number", parts.pre)
+        _want(is_pre, "pre", "a pair of 'a', 'b' or 'rc' and a number from 0 to 2^64 - 1", parts.pre)
         text += f"{letter}{number:d}"
     for name, value in (("post", parts.post), ("dev", parts.dev)):
         if value is not None:
-            _want(_is_number(value), name, "a number that is not negative", value)
+            _want(_is_number(value), name, "a number from 0 to 2^64 - 1", value)
             text += f".{name}{value:d}"
     if parts.local is not None:
         # (white space at its end would be read as that around a version)
         is_local = isinstance(parts.local, str) and parts.local.split() == [parts.local]
         _want(is_local, "local", "a local version", parts.local)
-        text += f"+{parts.local}"
+        text += "+" + parts.local
     return text
 
 
 def _is_number(value: object) -> bool:
-    return isinstance(value, int) and value >= 0
+    return isinstance(value, int) and 0 <= value < 1 << 64
 
 
 def _want(is_given: bool, part: str, what: str, value: object) -> None:
-    if not is_given:
-        raise InvalidVersion(f"{part} has to be {what}, not {value!r}")
+    if is_given:
+        return
+    try:
+        said = repr(value)
+    except ValueError:  # of a number of some thousand digits
+        said = "one of too many digits"
+    raise InvalidVersion(f"{part} has to be {what}, not {said}")
 
 
 def is_prerelease(text: str) -> bool:

@@ -2,6 +2,7 @@
 
 import threading
 import unittest
+from unittest import mock
 
 import fowlyore
 from fowlyore import InvalidInput, InvalidMarker, Marker, Requirement, TooManyClauses, TooManyNodes, _native
@@ -78,6 +79,23 @@ class Usual(unittest.TestCase):
         self.assertEqual(repr(fowlyore.bounds), "Bounds(nodes=None, clauses=1, cases=None)")
         fowlyore.bounds.clauses = 2**80
         self.assertIsInstance(marker.simplify_extras([]), Marker)
+
+    def test_a_text_that_is_made_within_other_bounds(self):
+        given, normal = "'nt' == os_name and extra == 'a'", "os_name == 'nt' and extra == 'a'"
+        for name, most in (("nodes", 1_000_000), ("clauses", 100_000)):
+            marker = Marker(given)
+            setattr(fowlyore.bounds, name, 0)
+            self.assertEqual((str(marker), str(marker)), (given, given))
+            setattr(fowlyore.bounds, name, most)
+            self.assertEqual((str(marker), str(marker)), (normal, normal))
+            setattr(fowlyore.bounds, name, 0)
+            self.assertEqual(str(marker), normal)
+            setattr(fowlyore.bounds, name, most)
+        with mock.patch.object(_native, "marker", wraps=_native.marker) as made:
+            marker = Marker(given)
+            fowlyore.bounds.clauses = 0
+            self.assertEqual((str(marker), repr(marker)), (given, f"<Marker({given!r})>"))
+            self.assertEqual(made.call_count, 1)
 
     def test_what_is_no_bound(self):
         for bound, error in ((-1, ValueError), ("1", TypeError), (1.0, TypeError)):

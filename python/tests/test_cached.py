@@ -10,12 +10,12 @@ class Slow:
     """Its value is computed by both of two threads before either stores it."""
 
     def __init__(self):
-        self.both = threading.Barrier(2)
+        self.both = threading.Barrier(2, timeout=300)
 
     @cached_property
     def value(self):
         """A value."""
-        self.both.wait(60)
+        self.both.wait()
         return object()
 
 

@@ -3,14 +3,15 @@
 import io
 import os
 import pathlib
+import resource
 import subprocess
 import sys
 import tempfile
 import unittest
 from contextlib import redirect_stderr, redirect_stdout
 
-from fowlyore import __version__
-from fowlyore.__main__ import main
+from fowlyore import InvalidInput, __version__, normal
+from fowlyore.__main__ import main, shown
 
 EXAMPLES = pathlib.Path(__file__).resolve().parents[2] / "examples"
 FIRST = EXAMPLES / "first"
@@ -70,6 +71,43 @@ class Commands(unittest.TestCase):
             self.assertEqual((status, out), (2, ""))
             self.assertTrue(err.startswith(f"fowlyore: {path}: line 2"), err)
             self.assertIn("^", err)
+            environment = pathlib.Path(folder, "environment.json")
+            for text in ("", "[]", "{}", '{"python_full_version": 3}', "[" * 100_000):
+                environment.write_text(text)
+                status, out, err = run("check", FIRST / "requirements.txt", "--environment", environment)
+                self.assertEqual((status, out), (2, ""), text)
+                self.assertTrue(err.startswith(f"fowlyore: {environment}: "), err)
+
+    def test_control_characters(self):
+        """They are shown by their numbers, as `reqs` shows them, and the marks below them stand where they do then."""
+        with tempfile.TemporaryDirectory() as folder:
+            path = pathlib.Path(folder, "a\x1b.txt")
+            path.write_text("foo ; os_name == '\x1b[2J\u202e' and xyz == '1'\n", encoding="utf-8")
+            status, out, err = run("normal", path)
+            with self.assertRaises(InvalidInput) as caught:
+                normal(path)
+            error = caught.exception
+            blanks, marks = len(shown(error.text[: error.start])), len(shown(error.text[error.start : error.end]))
+            line = r"foo ; os_name == '\u{1b}[2J\u{202e}' and xyz == '1'"
+            self.assertEqual((status, out, err.split("\n")[-3:]), (2, "", [line, " " * blanks + "^" * marks, ""]), err)
+            self.assertTrue(err.startswith(rf"fowlyore: {folder}/a\u{{1b}}.txt: line 1, byte "), err)
+            path.write_text("--\x9b\n", encoding="utf-8")
+            status, out, err = run("normal", path)
+            self.assertEqual((status, out, err.split("\n")[2:]), (2, "", [r"--\u{9b}", "^" * 8, ""]), err)
+
+    def test_control_characters_of_explanations(self):
+        """As text they are shown by their numbers too; a page has what the line has, with escapes of its own."""
+        with tempfile.TemporaryDirectory() as folder:
+            path, candidates = pathlib.Path(folder, "requirements.txt"), pathlib.Path(folder, "candidates.txt")
+            path.write_text("foo!=1\t; os_name != '<&\x1b[2J\u202e'\n", encoding="utf-8")
+            candidates.write_text("foo 1\n")
+            words = ["check", path, *OF_FIRST[:2], "--candidates", candidates, "--explain"]
+            line = r"foo!=1\u{9}; os_name != '<&\u{1b}[2J\u{202e}'"
+            said = f"foo none\n    line 1 ({line}) accepts no candidate; the greatest is 1\n"
+            self.assertEqual(run(*words), (0, said, ""))
+            status, out, err = run(*words, "--format", "html")
+            self.assertEqual((status, err), (0, ""))
+            self.assertIn("(foo!=1\t; os_name != &#x27;&lt;&amp;\x1b[2J\u202e&#x27;) accepts no candidate", out)
 
     def test_words(self):
         self.assertEqual(run("--version"), (0, f"fowlyore {__version__}\n", ""))
@@ -77,18 +115,19 @@ class Commands(unittest.TestCase):
             status, out, err = run(*words)
             self.assertEqual((status, out), (2, ""), words)
             self.assertIn("usage: fowlyore", err)
-        for words in ((), ("check",), ("matrix",), ("same",), ("conflicts",), ("normal",)):
+        for words in ((), ("check",), ("matrix",), ("same",), ("covers",), ("conflicts",), ("normal",)):
             status, out, err = run(*words, "--help")
             self.assertEqual((status, err), (0, ""), words)
 
     def test_limits(self):
         """As `reqs` takes them (crates/reqs_cli, IsLimitText)."""
         path = FIRST / "requirements.txt"
-        for word in ("-1", "1000001", str(2**64), str(2**64 + 1), "x", "", "1.0", "1_0", " 1", "+", "\uff11"):
+        for word in ("-1", "1000001", str(2**64), str(2**64 + 1), "x", "", "1.0", "1_0", " 1", "+", "\uff11", "1" * 5000):
             status, out, err = run("conflicts", path, "--limit", word)
             self.assertEqual((status, out), (2, ""), word)
             self.assertIn("usage: fowlyore", err)
-        for word in ("1000000", "0004096", "+5"):
+            self.assertNotIn("limit_of", err)
+        for word in ("1000000", "0004096", "+5", "0" * 5000 + "5"):
             self.assertEqual(run("conflicts", path, f"--limit={word}"), (0, "", ""), word)
         status, out, err = run("conflicts", path, "--limit", "0")
         self.assertEqual((status, out, err), (2, "", f"fowlyore: {path}: more than 0 cases for colorama\n"))
@@ -120,6 +159,21 @@ class Commands(unittest.TestCase):
             text = "foo ; platform_version == 'a\u2028b'\nbar ; platform_version == 'a\x85b'\n"
             path.write_bytes(text.encode())
             self.assertEqual(run("normal", path), (0, text, ""))
+
+    def test_empty_words(self):
+        """They name no file, and not the working folder, which has a project here, and candidates."""
+        listed, before = FIRST / "requirements.txt", os.getcwd()
+        with tempfile.TemporaryDirectory() as folder:
+            pathlib.Path(folder, "pyproject.toml").write_text("[project]\nname = 'a'\ndependencies = ['foo']\n")
+            pathlib.Path(folder, "foo-1.tar.gz").touch()
+            os.chdir(folder)
+            self.addCleanup(os.chdir, before)
+            for words in (
+                ("normal", ""), ("same", listed, ""), ("covers", "", listed), ("conflicts", ""), ("check", ""), ("matrix", listed, ""),
+                ("check", listed, "--candidates", ""), ("check", listed, "--wheelhouse", ""), ("check", listed, "--environment", ""),
+            ):  # fmt: skip
+                self.assertEqual(run(*words), (3, "", "fowlyore: '': No such file or directory\n"), words)
+            os.chdir(before)
 
     def test_no_file(self):
         status, out, err = run("normal", "/no/such/file")
@@ -156,6 +210,38 @@ class Process(unittest.TestCase):
             self.assertEqual((ran.returncode, ran.stdout), (2, b""), it)
             self.assertIn("\u00e9", ran.stderr.decode(), it)
 
+    def test_paths_that_are_not_utf8(self):
+        with tempfile.TemporaryDirectory() as folder:
+            path = os.path.join(os.fsencode(folder), b"\xff.txt")
+            with open(path, "wb") as file:
+                file.write(b"foo\n")
+            words = ["check", path, "--candidates", os.devnull, "--format", "html"]
+            for it in ("utf-8", "utf-8:surrogateescape", "ascii"):
+                ran = self.run_module(*words, env={**os.environ, "PYTHONIOENCODING": it})
+                self.assertEqual((ran.returncode, ran.stderr), (0, b""), it)
+                self.assertIn(rb"\udcff.txt</title>", ran.stdout, it)
+
+    @unittest.skipUnless(os.path.exists("/dev/zero"), "there is no /dev/zero")
+    def test_inputs_without_end(self):
+        """They are refused as what is too long is, and no more of them is read."""
+        first, environments = str(FIRST / "requirements.txt"), str(FIRST / "environments.json")
+        for words in (
+            ["normal", "FILE"], ["same", first, "FILE"], ["check", "FILE"], ["check", first, "--environment", "FILE"],
+            ["check", first, *OF_FIRST[:2], "--candidates", "FILE"], ["matrix", first, "FILE", *OF_FIRST[2:]],
+            ["matrix", first, environments, "--candidates", "FILE"],
+        ):  # fmt: skip
+            for file in ("/dev/zero", "-"):
+                given = [file if it == "FILE" else it for it in words]
+                with self.subTest(given), open("/dev/zero", "rb") as zero:
+                    ran = self.run_module(*given, stdin=zero, preexec_fn=self.bound_memory)
+                    self.assertEqual((ran.returncode, ran.stdout), (2, b""), ran.stderr[:1000])
+                    self.assertRegex(ran.stderr, rb"\Afowlyore: (/dev/zero|-|[a-z]+): longer than 16777216 bytes\n\Z")
+
+    @staticmethod
+    def bound_memory():
+        """So that what is read without end ends by that, and not by the machine's memory."""
+        resource.setrlimit(resource.RLIMIT_AS, (1 << 30, 1 << 30))
+
     def test_an_empty_standard_input(self):
         for words in (["check", "-"], ["normal", "-"], ["conflicts", "-"]):
             ran = self.run_module(*words, stdin=subprocess.DEVNULL)
@@ -187,6 +273,7 @@ class Closed(unittest.TestCase):
         ["check", REQUIREMENTS, "--environment", ENVIRONMENT, "--candidates", CANDIDATES],
         ["matrix", REQUIREMENTS, str(FIRST / "environments.json"), "--candidates", CANDIDATES],
         ["same", str(EXAMPLES / "lock" / "before.txt"), str(EXAMPLES / "lock" / "rewritten.txt")],
+        ["covers", str(EXAMPLES / "lock" / "before.txt"), str(EXAMPLES / "lock" / "wanted.txt")],
         ["conflicts", str(EXAMPLES / "apart" / "requirements.txt")],
         ["normal", REQUIREMENTS.replace("first", "spelling")],
     )

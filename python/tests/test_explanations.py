@@ -175,6 +175,17 @@ class Calls(unittest.TestCase):
         self.assertLessEqual(len(sizes), 1 + 3 + 4)
         self.assertLessEqual(sum(sizes), 60 * len("\n".join(lines)))
 
+    def test_many_candidates(self):
+        """No more of them are offered at once than a call reads, though their normal texts are longer than what was given."""
+        lines = ["a<500", "a>500", "a!=999.post1", "b<=700", "b>699", "b!=700"]
+        candidates = {"a": [f"{it}-1" for it in range(1000)], "b": [*map(str, range(1000)), "700rc1"]}
+        wanted = explain(lines, ENVIRONMENT, candidates)
+        self.assertEqual([it.prerelease for it in wanted], [None, Version("700rc1")])
+        batches = mock.patch.object(fowlyore.explanations, "BATCH", 1000)
+        with batches, mock.patch.object(_native, "check", side_effect=_native.check) as calls:
+            self.assertEqual(explain(lines, ENVIRONMENT, candidates), wanted)
+        self.assertLessEqual(max(len(it.args[2]) for it in calls.call_args_list[1:]), 1000)
+
     def test_large_texts(self):
         """Of the lines no more is asked at once than a call reads, though each is asked with another name."""
         lines = [f"a!={it:03}{' ' * 5000}" for it in range(999)]
@@ -209,6 +220,15 @@ class Bounds(unittest.TestCase):
             wanted = [number for number, it in enumerate(lines, 1) if self.accepts_none(it, offered)]
             self.assertEqual([it.number for it in found.lines_without_candidate], wanted, offered)
             self.assertTrue(wanted)
+
+    def test_many_greatest_numbers(self):
+        """A specifier may have as many of them as a line has room for."""
+        for end in (".*", ".0"):
+            line = f"a{'==' if end == '.*' else '~='}1" + f".{2**64 - 1}" * 3000 + end
+            (found,) = explain([line], candidates={"a": [str(it) for it in range(9)]})
+            self.assertEqual([it.number for it in found.lines_without_candidate], [1])
+            accepted = line[3:].replace(".*", ".1")
+            self.assertEqual(explain([line], candidates={"a": [*map(str, range(9)), accepted]}), [])
 
     def within(self, rest, kind):
         return _within(_specifiers_of(_Asking(Line(1, f"a{rest}"), rest)), kind)

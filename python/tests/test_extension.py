@@ -256,25 +256,35 @@ def asked():
 
 
 def resident():
-    """The pages of memory that this process has."""
+    """The pages of memory that this process has for itself. (Those of files come and go as the system likes.)"""
     with open("/proc/self/statm") as file:
-        return int(file.read().split()[1])
+        _, whole, shared, *_ = map(int, file.read().split())
+        return whole - shared
 
 
 @unittest.skipUnless(HERE, NONE)
 class Memory(unittest.TestCase):
     @unittest.skipIf(CHECKED or not os.path.exists("/proc/self/statm"), "there is no /proc, or what is given back is kept for checks")
     def test_it_does_not_grow(self):
+        """Calls that keep memory keep it in each turn, and what the system does by itself is seen in one or another."""
         for _ in range(ROUNDS // 10 + 100):
             asked()
+        for _ in range(3):
+            pages, blocks = self.grown()
+            if pages < 256:
+                break
+        self.assertLess(pages, 256)
+        # (one block that is kept in each round would be as many)
+        self.assertLess(blocks, ROUNDS // 2)
+
+    def grown(self):
+        """By how many pages and blocks the memory grows in a turn."""
         gc.collect()
         pages, blocks = resident(), sys.getallocatedblocks()
         for _ in range(ROUNDS):
             asked()
         gc.collect()
-        self.assertLess(resident() - pages, 256)
-        # (one block that is kept in each round would be as many)
-        self.assertLess(sys.getallocatedblocks() - blocks, ROUNDS // 2)
+        return resident() - pages, sys.getallocatedblocks() - blocks
 
     def test_each_request_refused(self):
         """Requests of Python's for memory, each in turn, as of those that the extension makes."""
@@ -315,6 +325,14 @@ class Loading(unittest.TestCase):
             for name in (file.name, "/no/such/file.so"):
                 status, _, said = by(name, self.CODE)
                 self.assertEqual((status, "ImportError: " in said), (1, True), said)
+
+    def test_a_file_of_source(self):
+        """It is no extension, and isn't run."""
+        with tempfile.NamedTemporaryFile("w", suffix=".py") as file:
+            file.write("print('run')\n" * 10)
+            file.flush()
+            status, out, said = by(file.name, self.CODE)
+            self.assertEqual((status, out, "ImportError: " in said), (1, "", True), said)
 
     @unittest.skipUnless(HERE, NONE)
     def test_what_is_said_of_it(self):

@@ -61,6 +61,42 @@ class InFolder(unittest.TestCase):
         return self.said(error), os.path.basename(error.path), error.line
 
 
+class Long(InFolder):
+    """Files that never end, or are longer than any file may be, are refused."""
+
+    def test_named_by_another(self):
+        for option in ("-r", "-c"):
+            path = self.write(a=f"foo\n{option} /dev/zero\n")
+            self.assertEqual(str(self.refused(read, path)), "/dev/zero: longer than 16777216 bytes")
+
+    def test_each_kind(self):
+        metadata = "Metadata-Version: 2.1\nName: foo\n"
+        names = ("pyproject.toml", "pylock.toml", "METADATA", "PKG-INFO", "foo.egg-info")
+        for name in (*names, "b.dist-info/METADATA", "c.egg-info/PKG-INFO", "d.egg-info/requires.txt"):
+            path = self.folder / name
+            path.parent.mkdir(exist_ok=True)
+            path.write_text("#" * 101)
+            if name.endswith("requires.txt"):
+                path.with_name("PKG-INFO").write_text(metadata)
+            with mock.patch("fowlyore.lists.LONGEST_FILE", 100), mock.patch("fowlyore.core_metadata._MOST", 100):
+                error = self.refused(read, path if name in names else path.parent)
+            self.assertRegex(str(error), f"^{path}: (metadata )?longer than 100 bytes$")
+
+    def test_candidates(self):
+        for name in ("pylock.toml", "foo.json"):
+            path = self.folder / name
+            path.write_text(" " * 101)
+            with mock.patch("fowlyore.lists.LONGEST_FILE", 100):
+                error = self.refused(fowlyore.read_candidates, path)
+            self.assertEqual((str(error), error.input), (f"{path}: longer than 100 bytes", "candidates"))
+
+    def test_what_is_of_pip(self):
+        path = self.write(a=b"--pre\n" + b"#" * 16_777_220)
+        with mock.patch("fowlyore.lists.LONGEST_FILE", 16_777_225):
+            self.assertEqual(str(self.refused(read, path)), f"{path}: longer than 16777225 bytes")
+        self.assertEqual(read(path).lines, [])
+
+
 class Plain(InFolder):
     def test_as_it_stands(self):
         for data in (
@@ -74,6 +110,14 @@ class Plain(InFolder):
         ):
             listing = read(self.write(a=data))
             self.assertEqual((listing.is_plain, listing.text, listing.left_out), (True, data, ()), data)
+
+    def test_lines_that_a_comment_hides(self):
+        """Where a comment goes over what ends a line for pip alone, what follows is a line as it is for pip."""
+        for end in ("\r", "\x0b", "\x0c", "\x1c", "\x85", "\u2028"):
+            for text, wanted in ((f"# c{end}bar\n", ["bar"]), (f"foo # c{end}# d{end} bar>=1 # e\n", ["foo", "bar>=1"])):
+                self.assertEqual(normal(read(self.write(a=text))), wanted, ascii(text))
+            for text in (f"foo # c{end}\n", f"# c{end}# d\n{end}\nfoo{end}\n", f"foo ; platform_version == 'a{end}b'\n"):
+                self.assertTrue(read(self.write(a=text)).is_plain, ascii(text))
 
     def test_a_url_with_a_variable(self):
         """A variable that isn't set stays, and the library reads the line as it does in any list."""
@@ -195,6 +239,10 @@ class Faults(InFolder):
         (self.folder / "b").mkdir()
         said = "line 1, byte 3, length 1\nb: Is a directory\n-r b\n   ^"
         self.assertEqual(self.fault(self.write(a="-r b\n")), (said, "a.txt", 1))
+        for data in (b"foo\n-c a\0b\n", b"# coding: utf-7\n-r a+2AA-b\n"):
+            said, *where = self.fault(self.write(a=data))
+            self.assertEqual((said[:16], where), ("line 2, byte 3, ", ["a.txt", 2]))
+            self.assertRegex(said.split("\n")[1], r"\A'.*a\\(x00|ud800)b' is no path\Z")
 
     def test_circles(self):
         said = "line 1, byte 3, length 5\na.txt is being read: it names itself, or a file that names it"

@@ -1,16 +1,32 @@
 """Lists, by the repository's examples."""
 
+import enum
+import importlib.metadata
 import json
 import os
 import pathlib
 import random
 import tempfile
 import unittest
+import warnings
+from unittest import mock
 
 import fowlyore
+from fowlyore.listings import LONGEST
 
 EXAMPLES = pathlib.Path(__file__).resolve().parents[2] / "examples"
 CHECKED = ["first", "spelling", "pip-freeze", "pip-compile"]
+
+
+class Text(str, enum.Enum):
+    """Texts that print as other ones."""
+
+    LINE = "a>=1 ; os_name == 'nt' and extra == 'x'"
+    NAME = "a"
+    VERSION = "2"
+    EXTRA = "x"
+    SYSTEM = "nt"
+    FULL = "3.14.0+"
 
 
 def printed(rows):
@@ -52,6 +68,14 @@ class Answers(unittest.TestCase):
         self.assertEqual(printed(fowlyore.check(lines, candidates="", extras="Test")), "a none\nb none\n")
         self.assertEqual(printed(fowlyore.check(lines, candidates="", extras=["x", "y"])), "b none\n")
 
+    def test_texts_that_print_as_others(self):
+        """What counts of a member of an `Enum` that is a text is that text, wherever it is given."""
+        environment = {"os_name": Text.SYSTEM, "python_full_version": Text.FULL, "python_version": "3.14"}
+        for lines in (Text.LINE, [Text.LINE], [fowlyore.Requirement(Text.LINE)]):
+            for candidates in ([(Text.NAME, Text.VERSION)], {Text.NAME: Text.VERSION}, {Text.NAME: [Text.VERSION]}):
+                for extras in (Text.EXTRA, [Text.EXTRA]):
+                    self.assertEqual(printed(fowlyore.check(lines, environment, candidates, extras)), "a 2\n", (lines, candidates))
+
     def test_lines_and_their_ends(self):
         self.assertEqual(fowlyore.normal(["a\n", "", "# c\n", "b \r\n", "c"]), ["a", "b", "c"])
 
@@ -68,6 +92,28 @@ class Answers(unittest.TestCase):
         name = sorted(found)[0]
         (row,) = fowlyore.check([f"{name}>=0.dev0"])
         self.assertEqual(row.version, fowlyore.Version(found[name]))
+        with tempfile.TemporaryDirectory() as room:
+            for name, data in (("fine", b"Name: fine\nVersion: 1\n"), ("odd", b"Name: odd\nVersion: 1\nAuthor: \xe9\n")):
+                folder = pathlib.Path(room, f"{name}-1.dist-info")
+                folder.mkdir()
+                (folder / "METADATA").write_bytes(data)
+            told, found = [], list(importlib.metadata.distributions(path=[room]))
+            with mock.patch.object(importlib.metadata, "distributions", return_value=found):
+                self.assertEqual(fowlyore.installed(told), [("fine", "1")])
+            self.assertEqual(told, [f"{folder} None"])
+
+    def test_installed_without_a_name(self):
+        """What has no name, or no version, isn't installed under the text of None."""
+        with tempfile.TemporaryDirectory() as room:
+            for name, data in (("a", b"Version: 1\n"), ("b", b"Name: b\n"), ("c", b""), ("none", b"Name: None\nVersion: 1\n")):
+                folder = pathlib.Path(room, f"{name}-1.dist-info")
+                folder.mkdir()
+                (folder / "METADATA").write_bytes(data)
+            told, found = [], list(importlib.metadata.distributions(path=[room]))
+            with mock.patch.object(importlib.metadata, "distributions", return_value=found), warnings.catch_warnings():
+                warnings.simplefilter("error")
+                self.assertEqual(fowlyore.installed(told), [("None", "1")])
+            self.assertEqual(sorted(told), [f"{pathlib.Path(room, name)}-1.dist-info None" for name in "abc"])
 
     def test_matrix(self):
         for name, expected in (("first", "expected_matrix.txt"), ("matrix", "expected.txt")):
@@ -239,21 +285,100 @@ class Refusals(unittest.TestCase):
             self.assertNotIn("^", str(self.refused(call)))
 
     def test_no_text(self):
-        self.assertEqual(self.refused(fowlyore.normal, b"a\n\xff\n").input, "requirements")
+        rows = [
+            (b"\xff\n", (1, "\ufffd", 0, 1)), (b"a\n\xff\n", (2, "\ufffd", 0, 1)),
+            (b"\n\nb\xc3\xa9\xe2\x82>\n", (3, "b\u00e9\ufffd>", 2, 3)),
+            (["a", "b \ud800"], (2, "b " + "\ufffd" * 3, 2, 3)),
+        ]  # fmt: skip
+        for given, place in rows:
+            error = self.refused(fowlyore.normal, given)
+            self.assertEqual((error.input, (error.line, error.text, error.start, error.end)), ("requirements", place), given)
+        with mock.patch.dict(os.environ, {"VALUE": "\udcff"}), tempfile.TemporaryDirectory() as folder:
+            path = pathlib.Path(folder, "list.txt")
+            path.write_text("--pre\n\nfoo==${VALUE}\n")
+            error = self.refused(fowlyore.normal, fowlyore.read(path))
+        self.assertEqual((error.path, error.line, error.text), (str(path), 3, "foo==${VALUE}"))
 
     def test_no_lines(self):
         error = self.refused(fowlyore.normal, ["a", "b\nc"])
         self.assertEqual((error.input, error.line, error.text), ("requirements", 2, "b\nc"))
         self.assertEqual(self.refused(fowlyore.same, ["a"], ["a\nb\n"]).input, "right")
+        for lines in ([None], [3], [b"a"], ["a", 1.5], memoryview(b"a")):
+            with self.assertRaises(TypeError, msg=lines):
+                fowlyore.normal(lines)
+        for extras in ([3], [None], [b"a"], b"a", ["a", "\ud800"]):
+            error = self.refused(fowlyore.check, "a", None, "", extras)
+            self.assertEqual((error.input, error.message[:8]), ("extras", "extras: "), extras)
+
+    def test_what_prints_as_a_line(self):
+        """Of a mapping the values would be lost, and a path or a member of an `Enum` prints as a text that is no requirement."""
+        plain = enum.Enum("plain", ["a"])
+        for lines in ({"a": ">=2"}, [pathlib.Path("a")], [plain.a], [memoryview(b"a")], [1j]):
+            for call in (fowlyore.normal, lambda it: fowlyore.check(it, candidates=""), lambda it: fowlyore.same("a", it)):
+                with self.assertRaises(TypeError, msg=lines):
+                    call(lines)
+        for versions in (None, 1, 1.1, fowlyore.Specifier("==1")):
+            with self.assertRaisesRegex(TypeError, "^the versions of 'a' are one str or several, not ", msg=versions):
+                fowlyore.check("a", candidates={"b": "1", "a": versions})
+        for pair in ((pathlib.Path("a"), "1"), ("a", pathlib.Path("1")), (plain.a, "1"), ("a",), ("a", "1", "2"), 3, None):
+            with self.assertRaisesRegex(TypeError, "a candidate is a pair|is given as a str", msg=pair):
+                fowlyore.check("a", candidates=[("b", "1"), pair])
+
+    def test_environments_that_are_no_mappings(self):
+        environment = fowlyore.default_environment()
+        pairs = list(environment.items())
+        calls = [lambda: fowlyore.check("a", pairs, ""), lambda: fowlyore.check("a", 3, "")]
+        calls += [lambda it=it: fowlyore.matrix("a", it, "") for it in (environment, [pairs], [None], ["{}"])]
+        calls += [lambda it=it: fowlyore.Marker("os_name == 'nt'").evaluate(it) for it in (pairs, "os_name", 3)]
+        for call in calls:
+            with self.assertRaisesRegex(TypeError, "^an environment is a mapping, not "):
+                call()
+
+    def test_too_long(self):
+        """A file is refused as its text is, of which no more is read than that takes."""
+        def told(call, given):
+            with self.assertRaises(fowlyore.InvalidInput) as found:
+                call(given)
+            it = found.exception
+            return it.message, it.input, it.text, it.line, it.start, it.end, it.entry
+
+        calls = {
+            "requirements": fowlyore.normal, "environment": lambda it: fowlyore.check("foo", it, ""),
+            "environments": lambda it: fowlyore.matrix("foo", it, ""), "candidates": lambda it: fowlyore.check("foo", None, it),
+        }  # fmt: skip
+        with tempfile.TemporaryDirectory() as folder:
+            path = pathlib.Path(folder, "list")
+            path.write_bytes(b"#" * (LONGEST + 2))
+            for name, call in calls.items():
+                said = told(call, path.read_bytes())
+                self.assertEqual(said[:2], (f"{name}: longer than {LONGEST} bytes", name))
+                self.assertEqual(told(call, path), said)
+            self.assertEqual(told(fowlyore.read, path), told(fowlyore.normal, path))
+            path.write_bytes(b"#" * LONGEST)
+            self.assertEqual((fowlyore.normal(path), fowlyore.normal(fowlyore.read(path))), ([], []))
+
+    def test_longer_files_of_pip(self):
+        """Where something of pip's may be in what a list may have, a longer file is read: also if a character ends behind that."""
+        with tempfile.TemporaryDirectory() as folder:
+            path = pathlib.Path(folder, "list")
+            long = b"#" * LONGEST
+            for text in (b"--pre\n" + long, b"# coding: latin-1\n# \xe4" + long, b"#" + "\u20ac".encode() * (LONGEST // 3 + 1)):
+                path.write_bytes(text + b"\n--no-index\nfoo\n")
+                self.assertEqual(fowlyore.normal(fowlyore.read(path)), ["foo"], text[:20])
 
     def test_no_candidates(self):
         """What would be read as other candidates than it says."""
-        for pair in (("a", "1\nb 2"), ("a\nb", "1"), ("# a", "1"), ("a 1 #", "2"), ("a", "1 # b"), ("", "a 1"), ("", "")):
+        for pair in (
+            ("a", "1\nb 2"), ("a\nb", "1"), ("# a", "1"), ("a 1 #", "2"), ("a", "1 # b"), ("", "a 1"), ("", ""), ("a 1", ""),
+            ("\t", "a 1"), ("a\xa01", ""), ("a b", "1"),
+        ):  # fmt: skip
             for candidates in ([("c", "1"), pair], {"c": "1", pair[0]: pair[1]}):
                 self.assertEqual(self.refused(fowlyore.check, "a", None, candidates).input, "candidates", candidates)
-        for candidates in (["a1"], ["a 1"], ("a", "1")):
+        pairs = ((None, "1"), ("a", None), ("a", 1.10), ("a", 1), (b"a", "1"), ("a", b"1"))
+        for candidates in (["a1"], ["a 1"], ("a", "1"), [b"ab"], {"a": [1.10]}, *([("c", "1"), it] for it in pairs)):
             with self.assertRaises(TypeError, msg=candidates):
                 fowlyore.check("a", candidates=candidates)
+        self.assertEqual(printed(fowlyore.check("a", candidates=[(" a\t", " 1 "), ("a", fowlyore.Version("2"))])), "a 2\n")
 
     def test_limits(self):
         calls = [
@@ -263,7 +388,7 @@ class Refusals(unittest.TestCase):
             lambda limit: fowlyore.conflicts("a", limit),
         ]
         for call in calls:
-            for limit in (-1, 1_000_001, 2**64, 2**64 + 4096):
+            for limit in (-1, 1_000_001, 2**64, 2**64 + 4096, 10**5000):
                 self.assertEqual(self.refused(call, limit).input, "limit", limit)
             call(1_000_000)
             self.assertIn("more than 0 cases", str(self.refused(call, 0)))

@@ -13,7 +13,7 @@ import weakref
 from unittest import mock
 
 from fowlyore import (
-    InvalidMarker, InvalidVersion, Marker, Requirement, UndefinedEnvironmentName, Version, _native, default_environment,
+    InvalidMarker, InvalidVersion, Marker, Requirement, Specifier, UndefinedEnvironmentName, Version, _native, default_environment,
 )  # fmt: skip
 
 WINDOWS = {"os_name": "nt", "sys_platform": "win32", "platform_system": "Windows", "python_version": "3.12"}
@@ -125,12 +125,13 @@ class Markers(unittest.TestCase):
             Marker(None)
 
     def test_environments_that_are_none(self):
-        for environment in ({"python_full_version": "three"}, {"implementation_version": "x"}, {"os_name": None}):
+        no_texts = ({"os_name": it} for it in (None, 1, 1.5, b"nt", ["nt"], {"nt"}, {(): 1}, object(), 10**5000))
+        for environment in ({"python_full_version": "three"}, {"implementation_version": "x"}, *no_texts):
             with self.assertRaises(UndefinedEnvironmentName, msg=environment):
                 Marker("os_name == 'nt'").evaluate(environment)
 
     def test_extras_that_are_none(self):
-        for extra in ("a\nb", "b\n", "\nb", "\n", "no name", "-"):
+        for extra in ("a\nb", "b\n", "\nb", "\n", "no name", "-", 1, b"b", ["b"], {"b"}):
             with self.assertRaises(UndefinedEnvironmentName, msg=repr(extra)):
                 Marker("extra == 'b'").evaluate({"extra": extra})
 
@@ -277,6 +278,13 @@ class Algebra(unittest.TestCase):
             self.assertEqual(other.is_disjoint(one), disjoint)
             self.assertEqual((one & other) == one, implies)
             self.assertTrue(one.implies(one))
+
+    def test_relations_with_others(self):
+        marker = Marker("os_name == 'nt'")
+        for other in ("os_name == 'nt'", None, Specifier(">=1"), Requirement("foo")):
+            for call in (marker.implies, marker.is_disjoint):
+                with self.assertRaisesRegex(TypeError, "^a Marker is compared with a Marker, not with ", msg=other):
+                    call(other)
 
     def test_simplify_python_versions(self):
         marker = Marker("python_version >= '3.8' and python_version < '3.12' and os_name == 'nt'")

@@ -1,5 +1,6 @@
 """Core metadata: in files, wheels, source archives, folders, and of what is installed; and candidates that files offer."""
 
+import enum
 import importlib.metadata
 import io
 import json
@@ -12,7 +13,7 @@ import unittest
 import zipfile
 from unittest import mock
 
-from fowlyore import InvalidInput, LeftOut, Place, check, read, read_candidates, wheelhouse
+from fowlyore import InvalidInput, LeftOut, Place, check, core_metadata, read, read_candidates, wheelhouse
 from tests.test_command import run
 from tests.test_files import ENVIRONMENT, InFolder
 
@@ -109,6 +110,13 @@ class Metadata(OfMetadata):
         self.assertEqual([(it.what, it.place.line) for it in listing.left_out], [("Requires-Dist", 4)])
         listing = read(self.archive("app-1.0.tar.gz", {"a/PKG-INFO": "Name: a\n", "a/src/a.egg-info/requires.txt": "foo\n"}))
         self.assertEqual(self.lines(listing), [("foo", 1)])
+
+    def test_many_metadata_in_source_archives(self):
+        """Of several no more than the first is read."""
+        path = self.archive("app-1.0.tar.gz", {f"app{it}/PKG-INFO": METADATA for it in range(9)})
+        with mock.patch("fowlyore.core_metadata.read_some", wraps=core_metadata.read_some) as reading:
+            self.assertEqual(self.message(path)[0], "there are 9 files PKG-INFO, and one is wanted")
+        self.assertEqual(reading.call_count, 1)
 
     def test_links_in_source_archives(self):
         path = self.folder / "app-1.0.tar.gz"
@@ -442,6 +450,16 @@ class Pages(OfMetadata):
             "[0]: left out: foo-1-py3-none-any.whl (Python 3.8 is not in <3, which it asks for)",
             "[2]: left out: foo-3-cp38-cp38-x.whl (a wheel for other interpreters, by its tags)",
         ])  # fmt: skip
+
+    def test_wheels_of_many_tags(self):
+        """A name may have so many texts in each part that there are more tags of them than could be looked at."""
+        many = [".".join(f"{kind}{it}" for it in range(5000)) for kind in "abc"]
+        files = [f"foo-1-{'-'.join(many)}.whl", f"foo-2-{many[0]}.py3-{many[1]}.none-{many[2]}.any.whl"]
+        path = self.page({"name": "foo", "files": [{"filename": it} for it in files]})
+        self.assertEqual(read_candidates(path, tags=["py3-none-any", "a-b", "a0-b0"]), [("foo", "2")])
+        self.assertEqual(read_candidates(path, tags=["a7-b0-c4999"]), [("foo", "1"), ("foo", "2")])
+        for tags in ("py3-none-any", enum.Enum("texts", {"tag": "py3-none-any"}, type=str)):
+            self.assertEqual(read_candidates(path, tags=tags), [("foo", "2")])
 
     def test_other_files(self):
         """They are lists, which the functions on lists read by their paths."""

@@ -1,6 +1,7 @@
 """What the package says of the library, held against its header."""
 
 import ctypes
+import ctypes.util
 import os
 import pathlib
 import re
@@ -52,7 +53,9 @@ class Header(unittest.TestCase):
 
 class Loading(unittest.TestCase):
     def test_another_library(self):
-        for path, said in (("/no/such/library.so", "can't load"), (__file__, "can't load")):
+        others = [("/no/such/library.so", "can't load"), (__file__, "can't load")]
+        others += [(it, "can't call") for it in [ctypes.util.find_library("c")] if it]
+        for path, said in others:
             environment = {**os.environ, "FOWLYORE_LIBRARY": path}
             ran = subprocess.run([sys.executable, "-c", "import fowlyore"], env=environment, stderr=subprocess.PIPE)
             self.assertNotEqual(ran.returncode, 0)

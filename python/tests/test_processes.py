@@ -21,7 +21,7 @@ from fowlyore.explanations import explain
 
 PYTHON = pathlib.Path(__file__).resolve().parents[1]
 # How many children are forked, how many threads call meanwhile, and how many seconds a child and a whole process may take.
-CHILDREN, THREADS, CHILD_SECONDS, SECONDS = 200, 4, 60, 300
+CHILDREN, THREADS, CHILD_SECONDS, SECONDS = 200, 4, 600, 3600
 ENVIRONMENT = {**fowlyore.default_environment(), "os_name": "posix", "python_version": "3.11", "python_full_version": "3.11.4"}
 NAMES = [f"package-{it}" for it in range(100, 200)]
 VERSIONS = [f"{major}.{minor}" for major in range(20) for minor in range(20)]

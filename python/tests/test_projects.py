@@ -11,6 +11,7 @@ from unittest import mock
 import fowlyore
 from fowlyore import Assumption, LeftOut, Place, check, matrix, normal, read
 from fowlyore.explanations import explain
+from fowlyore.utils import normal_name
 from tests.test_command import run
 from tests.test_files import ENVIRONMENT, WINDOWS, InFolder
 
@@ -64,6 +65,17 @@ version = "2.0+cpu"
 """
 
 
+class Counted(str):
+    """A text that counts how often it is compared."""
+
+    __hash__ = str.__hash__
+    count = 0
+
+    def __eq__(self, other):
+        Counted.count += 1
+        return str(self) == str(other)
+
+
 class OfToml(InFolder):
     def project(self, text, name="pyproject.toml"):
         path = self.folder / name
@@ -83,6 +95,25 @@ class OfToml(InFolder):
 
 @unittest.skipUnless(HAS_TOML, "there is no tomllib and no tomli, which read TOML")
 class Projects(OfToml):
+    def test_many_extras(self):
+        """No extra is compared with each other one."""
+        entries = "".join(f"a{it} = ['app[a{it - 1}]']\n" for it in range(1, 300))
+        path = self.project(f"[project]\nname = 'app'\n[project.optional-dependencies]\na0 = []\n{entries}")
+        Counted.count = 0
+        with mock.patch("fowlyore.projects.normal_name", lambda it: Counted(normal_name(it))):
+            self.assertEqual(len(read(path).provided_extras), 300)
+        self.assertLess(Counted.count, 3000)
+
+    def test_extras_that_name_too_many(self):
+        """A chain of extras names each of those before it, which is told where they are more than a list may have."""
+        entries = "".join(f"a{it} = ['app[a{it + 1}]', 'foo{it}']\n" for it in range(20))
+        path = self.project(f"[project]\nname = 'app'\n[project.optional-dependencies]\n{entries}a20 = []\n")
+        self.assertEqual(read(path).left_out, ())
+        with mock.patch("fowlyore.conditions._MOST_NAMES", 200):
+            listing = read(path)
+        self.assertEqual((len(listing.lines), len(listing.left_out)), (20, 20))
+        self.assertIn("in too many ways", listing.left_out[0].why)
+
     def test_lines(self):
         path = self.project(PROJECT)
         listing = read(path)

@@ -89,6 +89,14 @@ class Requirements(unittest.TestCase):
             self.assertEqual(pickle.loads(pickle.dumps(it)), it)
             self.assertEqual(copy.deepcopy(it), it)
 
+    def test_made_once(self):
+        """So that none keeps the specifiers and the marker of another one."""
+        it = Requirement("foo>=1 ; os_name == 'nt'")
+        for made in (it, pickle.loads(pickle.dumps(it))):
+            with self.assertRaisesRegex(TypeError, "^a requirement is made once$"):
+                made.__init__("bar")
+            self.assertEqual(made, Requirement("foo>=1 ; os_name == 'nt'"))
+
     def test_a_quote_in_a_marker(self):
         it = Requirement("""foo @ https://example.org/;x ; platform_version == "it's" """)
         self.assertTrue(it.marker.evaluate({"platform_version": "it's"}))
@@ -211,6 +219,13 @@ class InLists(unittest.TestCase):
             with self.assertRaises(InvalidInput, msg=(part, value)) as found:
                 fowlyore.check(["bar", it], candidates="")
             self.assertEqual((found.exception.input, found.exception.line), ("requirements", 2))
+
+    def test_a_marker_that_is_none(self):
+        it = Requirement("foo")
+        it.marker = "os_name == 'nt'"
+        for call in (lambda: fowlyore.normal([it]), lambda: hash(it), lambda: it == Requirement("foo")):
+            with self.assertRaisesRegex(TypeError, "^a requirement's marker is a Marker or None, not str$"):
+                call()
 
     def test_ends_of_lines(self):
         for text in ("foo\n", "\nfoo ; os_name == 'nt'\r\n", " foo\t"):

@@ -91,3 +91,14 @@ class Texts(unittest.TestCase):
         for it in range(1000):
             self.assertEqual(json.loads(markers.environment_json({**base, "os_name": str(it)}))["os_name"], str(it))
         self.assertLess(len(markers._kept_json), 100)
+
+    def test_long_ones_are_not_kept(self):
+        """Who evaluates markers of others keeps none of their texts that may be as long as they like."""
+        long = "a" * 100_000
+        before = [len(it) for it in (markers._kept_json, markers._kept_given, markers._kept_answers)]
+        self.assertFalse(holds("os_name", long))
+        self.assertTrue(Marker(f"os_name == '{long}'").evaluate({"os_name": long}))
+        self.assertFalse(Marker("extra == 'b'").evaluate({"extra": long}))
+        kept = [*markers._kept_json, *markers._kept_given, *markers._kept_answers]
+        self.assertFalse([it for it in kept if long in repr(it)])
+        self.assertLessEqual(len(kept), sum(before) + 3)

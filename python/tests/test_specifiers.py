@@ -1,5 +1,6 @@
 """Specifiers, by PEP 440."""
 
+import enum
 import itertools
 import sys
 import unittest
@@ -99,6 +100,16 @@ class Prereleases(unittest.TestCase):
         specifiers.prereleases = None
         self.assertIn("2.0a1", specifiers)
 
+    def test_set_on_a_member(self):
+        """What is set on a member counts from then on, also where the list was asked before."""
+        specifiers = SpecifierSet(">=1,<3")
+        self.assertIsNone(specifiers.prereleases)
+        member = next(iter(specifiers))
+        for said, wanted, taken in ((True, True, ["2a1", "2"]), (False, None, ["2"]), (None, None, ["2"])):
+            member.prereleases = said
+            self.assertIs(specifiers.prereleases, wanted)
+            self.assertEqual(list(specifiers.filter(["2a1", "2"])), taken)
+
     def test_contained(self):
         """A pre-release that is accepted is, unless `prereleases` is False."""
         rows = [
@@ -186,6 +197,33 @@ class Values(unittest.TestCase):
         with self.assertRaises(TypeError):
             both & 1
 
+        class Own(SpecifierSet):
+            def __and__(self, other):
+                return super().__and__(other)
+
+        wanted = SpecifierSet(">=1,<2")
+        for kind in (Own, type("Another", (SpecifierSet,), {})):
+            one, other = kind(">=1"), kind("<2")
+            for _ in range(2):
+                self.assertEqual((type(one & other), one & other, one & "<2"), (SpecifierSet, wanted, wanted))
+                # (once its members are made too)
+                self.assertEqual((len(one), len(other)), (1, 1))
+
+    def test_made_once(self):
+        """So that nothing keeps what was known of other specifiers, as whether one names a pre-release."""
+        for kind in (Specifier, SpecifierSet):
+            it, both = kind(">=1.0rc1"), SpecifierSet(">=1.0rc1") & ""
+            for made, text in ((it, "<2"), (it, "no specifier"), (both, "<2"), (both, ["<2"])):
+                with self.assertRaisesRegex(TypeError, "^specifiers are made once$"):
+                    made.__init__(text)
+                self.assertEqual((str(made), made.prereleases, "2" in made), (">=1.0rc1", True, True))
+                self.assertEqual((made, hash(made)), (type(made)(">=1.0rc1"), hash(type(made)(">=1.0rc1"))))
+            again = kind.__new__(kind)
+            with self.assertRaises(InvalidSpecifier):
+                again.__init__("no specifier")
+            again.__init__("<2")
+            self.assertEqual(again, kind("<2"))
+
     def test_members_in_their_order(self):
         written = [">=1", "!=1.5", "<2", "!= 1.5.0", "==1.*", "!=1.5"]
         texts = [it.replace(" ", "") for it in written]
@@ -218,6 +256,18 @@ class Values(unittest.TestCase):
                 SpecifierSet(iter(texts))
         with self.assertRaises(TypeError):
             SpecifierSet([1])
+
+    def test_texts_that_print_as_others(self):
+        """What counts of a member of an `Enum` that is a text is that text."""
+        texts = enum.Enum("texts", {"list": ">=1", "version": "1.5", "many": "18446744073709551616"}, type=str)
+        specifiers = SpecifierSet(texts.list)
+        self.assertEqual(specifiers, texts.list)
+        self.assertEqual((specifiers & texts.list, SpecifierSet([texts.list])), (SpecifierSet(">=1,>=1"), specifiers))
+        self.assertEqual((str(specifiers), str(Specifier(texts.list))), (">=1", ">=1"))
+        self.assertTrue(specifiers.contains(texts.version))
+        self.assertEqual(list(specifiers.filter([texts.version])), [texts.version])
+        with self.assertRaises(InvalidVersion):
+            specifiers.contains(texts.many)
 
     def test_weak_references(self):
         for it in (Specifier(">=1"), SpecifierSet(">=1")):

@@ -3,6 +3,7 @@
 import html.parser
 import io
 import re
+import threading
 import time
 import unittest
 from unittest import mock
@@ -25,6 +26,8 @@ ROWS = [
 ]
 GRID = Grid.of(ROWS, [{"os_name": "<&>"}, {"os_name": "\x1b[2J"}, {"os_name": "c"}])
 COLOUR = re.compile(r"\x1b\[\d+m")
+# For so many seconds at most it is waited for what another thread does.
+MOST = 300
 
 
 class Page(html.parser.HTMLParser):
@@ -148,7 +151,7 @@ class Checks(InFolder):
         path = self.write(a="foo>=2\n")
         for variables, has_colour in (({"TERM": "xterm"}, True), ({"TERM": "xterm", "NO_COLOR": "1"}, False), ({"TERM": "dumb"}, False)):
             terminal = Terminal()
-            with mock.patch.dict("os.environ", variables), mock.patch("sys.stdout", terminal):
+            with mock.patch.dict("os.environ", {"NO_COLOR": "", **variables}), mock.patch("sys.stdout", terminal):
                 main(["check", str(path), "--candidates", str(self.write(b="foo 1\n")), "--format", "table"])
             self.assertEqual("\x1b" in terminal.getvalue(), has_colour, variables)
 
@@ -159,30 +162,49 @@ class Terminal(io.StringIO):
 
 
 class LongWork(unittest.TestCase):
-    def shown(self, seconds, is_wanted=True, stream=Terminal):
+    def shown(self, work, is_wanted=True, stream=Terminal):
+        """What a stream is written while some work is done, which is given the progress and the stream."""
         terminal = stream()
         with mock.patch.dict("os.environ", {"TERM": "xterm"}), mock.patch("sys.stderr", terminal), mock.patch.object(
             Progress, "is_wanted", is_wanted
         ), mock.patch.multiple(progress, FIRST=0.01, EVERY=0.01):
             with Progress("reading", 7) as found:
-                found.step()
-                time.sleep(seconds)
+                work(found, terminal)
         return terminal.getvalue()
 
+    def await_text(self, terminal, text):
+        """Waits until another thread has shown a text."""
+        last = time.monotonic() + MOST
+        while text not in terminal.getvalue() and time.monotonic() < last:
+            time.sleep(0.01)
+
     def test_terminal(self):
-        shown = self.shown(0.3)
-        self.assertRegex(shown, r"\A(\r\x1b\[Kfowlyore: reading: 1 of 7, \d+ s)+\r\x1b\[K\Z")
+        def work(found, terminal):
+            self.await_text(terminal, " 0 of 7, ")
+            found.step()
+            self.await_text(terminal, " 1 of 7, ")
+
+        lines = "".join(rf"(\r\x1b\[Kfowlyore: reading: {it} of 7, \d+ s)+" for it in range(2))
+        self.assertRegex(self.shown(work), rf"\A{lines}\r\x1b\[K\Z")
 
     def test_silence(self):
-        self.assertEqual(self.shown(0.1, is_wanted=False), "")
-        self.assertEqual(self.shown(0.1, stream=io.StringIO), "")
+        def work(*_):
+            time.sleep(0.1)
+
+        self.assertEqual(self.shown(work, is_wanted=False), "")
+        self.assertEqual(self.shown(work, stream=io.StringIO), "")
 
     def test_a_terminal_that_is_gone(self):
+        asked = threading.Event()
+
         class Gone(Terminal):
             def write(self, text):
+                asked.set()
                 raise OSError("gone")
 
-        self.assertEqual(self.shown(0.1, stream=Gone), "")
+        with mock.patch("threading.excepthook") as failed:
+            self.assertEqual(self.shown(lambda *_: self.assertTrue(asked.wait(MOST)), stream=Gone), "")
+        self.assertFalse(failed.called)
 
     def test_faults_go_on(self):
         with self.assertRaises(KeyError), Progress("x"):

@@ -1,5 +1,6 @@
 """Names, texts of versions, and names of files, by PEP 503, PEP 427 and PEP 625."""
 
+import enum
 import sys
 import unittest
 import unittest.mock
@@ -58,6 +59,15 @@ class Versions(unittest.TestCase):
             for it in (text, Version(text)):
                 self.assertEqual(canonicalize_version(it), without)
                 self.assertEqual(canonicalize_version(it, strip_trailing_zero=False), whole)
+
+    def test_many_zeros(self):
+        """Each is looked at once, also where they aren't at the end."""
+        zeros = ".0" * 300_000
+        self.assertEqual(canonicalize_version(f"1{zeros}.1{zeros}rc1"), f"1{zeros}.1rc1")
+
+    def test_texts_that_print_as_others(self):
+        text = enum.Enum("texts", {"none": "french toast"}, type=str).none
+        self.assertEqual(canonicalize_version(text), "french toast")
 
     def test_others_are_left(self):
         for text in ("", "french toast", "1.0.*", " 1.0x ", str(2**64)):
@@ -149,13 +159,35 @@ class Archives(unittest.TestCase):
             Wheels.assert_told(self, found.exception, filename, part)
 
 
+class Kept(unittest.TestCase):
+    def test_what_is_found_once(self):
+        tags = [parse_wheel_filename("foo-1-py2.py3-none-any.whl")[3] for _ in range(2)]
+        self.assertIs(*tags)
+        self.assertEqual(utils._kept_names["foo"], "foo")
+
+    def test_long_ones_are_not_kept(self):
+        """Nor many tags of one wheel."""
+        long, many = "A" * 100_000, ".".join(map(str, range(30)))
+        self.assertEqual(canonicalize_name(long), long.lower())
+        self.assertEqual(canonicalize_name(f"{long}!"), f"{long}!".lower())
+        for filename, count in ((f"{long}-1-{long}-none-any.whl", 1), (f"foo-1-{many}-{many}-any.whl", 900)):
+            self.assertEqual(len(parse_wheel_filename(filename)[3]), count)
+        self.assertFalse([it for it in utils._kept_names if long in it])
+        self.assertFalse([it for it in utils._kept_tags if long.lower() in it or long in it or many in it])
+
+    def test_many(self):
+        for it in range(2 * utils._MOST_KEPT):
+            self.assertEqual(canonicalize_name(f"A{it}"), f"a{it}")
+        self.assertLessEqual(len(utils._kept_names), utils._MOST_KEPT)
+
+
 class Asked(unittest.TestCase):
     def test_the_library_says_what_a_name_is(self):
         read = _native.requirement
         self.assertTrue(is_normalized_name("foo"))
         # What was found is kept, so that it is asked once.
-        self.addCleanup(utils.normal_name.cache_clear)
-        utils.normal_name.cache_clear()
+        self.addCleanup(utils._kept_names.clear)
+        utils._kept_names.clear()
         with unittest.mock.patch.object(_native, "requirement", side_effect=lambda text: read(b"-")):
             self.assertFalse(is_normalized_name("foo"))
             with self.assertRaises(InvalidWheelFilename):

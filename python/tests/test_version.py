@@ -1,6 +1,7 @@
 """Versions, by PEP 440."""
 
 import copy
+import enum
 import itertools
 import pickle
 import sys
@@ -107,11 +108,18 @@ class Made(unittest.TestCase):
             "pre": [("post", 1), ("rc",), "rc1", ("rc", -1), (1, 1), ("rc", None), ("", 5), ("a.", 1)],
             "post": [-1, "1", 2**64], "dev": [-1, (1,)], "local": ["", "a ", " a", "a+b", "a\n", 1, "\u0660", "."],
         }  # fmt: skip
+        # (which has no text)
+        huge = 10**5000
+        forms["epoch"] += [huge, -huge]
+        forms["release"] += [(1, huge), [huge]]
+        forms["pre"] += [("rc", huge)]
+        forms["dev"] += [huge]
+        forms["local"] += [huge]
         for part, values in forms.items():
             for value in values:
-                with self.assertRaises(InvalidVersion, msg=(part, value)):
+                with self.assertRaises(InvalidVersion, msg=part):
                     Version.from_parts(**{**self.WHOLE, part: value})
-                with self.assertRaises(InvalidVersion, msg=(part, value)):
+                with self.assertRaises(InvalidVersion, msg=part):
                     Version("3").__replace__(**{part: value})
 
     def test_replaced(self):
@@ -176,6 +184,25 @@ class Values(unittest.TestCase):
             version = Version(text)
             self.assertEqual(pickle.loads(pickle.dumps(version)), version)
             self.assertEqual(str(copy.deepcopy(version)), str(version))
+
+    def test_texts_that_print_as_others(self):
+        """What counts of a member of an `Enum` that is a text is that text, which is kept alone."""
+        texts = enum.Enum("texts", {"version": "1.5", "local": "a"}, type=str)
+        version = Version(texts.version)
+        self.assertIs(type(version._given), str)
+        self.assertEqual((str(version), str(pickle.loads(pickle.dumps(version)))), ("1.5", "1.5"))
+        self.assertEqual(str(Version.from_parts(release=(1,), local=texts.local)), "1+a")
+
+    def test_made_once(self):
+        """So that no version keeps a part of another one, and none that is kept by its hash changes."""
+        version = Version("1.0rc1")
+        for _ in range(2):
+            with self.assertRaisesRegex(TypeError, "^a version is made once$"):
+                version.__init__("2.0")
+            with self.assertRaises(InvalidVersion):
+                version.__init__("x")
+            found = str(version), version.release, version.is_prerelease, version == Version("1.0rc1"), hash(version)
+            self.assertEqual(found, ("1.0rc1", (1, 0), True, True, hash(Version("1.0rc1"))))
 
     def test_longer_than_the_buffer(self):
         numbers = list(range(2 * _native.ROOM))

@@ -17,7 +17,7 @@
 
 #define THREADS 4
 #define ROOM 4096
-#define SECONDS 60
+#define SECONDS 600
 #define MARKER "os_name == 'nt' or extra == 'a' and python_version < '3.8'"
 
 #define TEXT(text) (const uint8_t *)(text), sizeof(text) - 1

@@ -31,7 +31,7 @@
 #define MOST_CLAUSES 2000
 #define MOST_CASES 256
 #define HEAD (7 * sizeof(uint64_t))
-#define HANGS 120
+#define HANGS 600
 #define WAS 0xA5
 
 struct request {

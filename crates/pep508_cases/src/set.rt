@@ -67,8 +67,8 @@ impl TreeSet {
         })
     }
 
-    /// Makes this the set of as many trees as there are marks that contains those with the mark `true`. Linear
-    /// in the marks. The memory of the set's runs is used again.
+    /// Makes this the set, of as many trees as there are marks, that contains those with the mark `true`.
+    /// Linear in the marks. The memory of the set's runs is used again.
     ///
     /// # Errors
     /// Where memory ran out.
@@ -98,8 +98,8 @@ impl TreeSet {
         lengthen(&mut self.runs, &later.runs)
     }
 
-    /// Returns those of the trees' numbers that are numbers of the set's members. Linear in the runs and in
-    /// what is returned.
+    /// Returns the numbers of the set's members, where `numbers` has one for each tree. Linear in the runs
+    /// and in what is returned.
     ///
     /// # Errors
     /// Where memory ran out.

@@ -16,7 +16,7 @@ use std::alloc::{AllocError, Global};
 static FORMATS: [&str; 2] = ["text", "json"];
 
 /// The version that `--version` prints after the program's name.
-const VERSION: &str = "0.2.0";
+const VERSION: &str = "0.3.0";
 
 /// A command, with its arguments other than inputs and extras.
 #[derive(Clone, Copy)]

@@ -30,7 +30,8 @@ pub record IsReady (callable : Type 0) (returns : Bor VersionRecord → Bool →
   pub known : AreKnown format returns nodes candidates run.text.texts run.table (pieces_of run.known.items)
 
 -- the candidates of a table's packages and the outcomes decided so far serve it still
-pub record KeepsRuns (returns : Bor VersionRecord → Bool → Bool → Type 0) (before run : Answering) : Type 0 where
+pub record KeepsRuns (returns : Bor VersionRecord → Bool → Bool → Type 0) (before run : Answering)
+    : Type 0 where
   pub candidates : run.runs.candidates ≡ before.runs.candidates
   pub runs : AreRunsOf run.table run.runs
   pub told : AreTold returns run.table run.runs

@@ -47,3 +47,4 @@ pub use Rattle.reqtable_compare.specs.Refusals
 pub use Rattle.reqtable_compare.specs.Answered
 pub use Rattle.reqtable_compare.specs.Relations
 pub use Rattle.reqtable_covers.specs.Covering
+pub use Rattle.reqtable_assumption.specs.Where

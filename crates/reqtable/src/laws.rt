@@ -2,6 +2,7 @@
 
 pub use pep508_cases::laws as marks;
 pub use reqtable_answer::laws as answers;
+pub use reqtable_assumption::laws as assumptions;
 pub use reqtable_candidates::laws as candidate_lists;
 pub use reqtable_cases::laws as cases;
 pub use reqtable_compare::laws as comparisons;

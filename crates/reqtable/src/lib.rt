@@ -47,6 +47,13 @@
 //! }
 //! ```
 //!
+//! A list can be restricted to the environments for which a marker holds, before it is compared:
+//!
+//! ```text
+//! let condition = parse_formula(alloc, "python_full_version >= '3.9'", &mut Silent)?;
+//! let requirements = assume(alloc, requirements, &mut interner, &condition)?;
+//! ```
+//!
 //! For many environments a table is built from the requirements beforehand, which it consumes. Its answers
 //! equal those of `Requirements::judge`:
 //!
@@ -67,6 +74,7 @@ pub use pep508_rs;
 pub use reqtable_answer::{
     Admission, Answer, Ask, AskSource, Outcome, Row, answer_to, ask_of, ask_of_marked,
 };
+pub use reqtable_assumption::assume;
 pub use reqtable_candidates::{
     Candidate, CandidateFault, Candidates, CandidatesError, Ordered, Placed,
 };

@@ -4,7 +4,7 @@ use Rattle.std.proofs.Common.{length}
 use Rattle.std.proofs.Common.{take, get_or, Bor}
 use Rattle.std.proofs.Common.{Some, None, refl, sym, ap, subst, inl, inr, arith, true≢false}
 use Rattle.std.proofs.lemmas.List.{map-append, append_assoc, append-nil, take_more}
-use Rattle.version_ranges.specs.Point.{Point}
+use Rattle.version_ranges.specs.Point.{Point, BelowAll}
 use Rattle.version_ranges.specs.Held.{holds_at}
 use Rattle.pep440_version.specs.Record.{VersionRecord}
 use Rattle.pep440_version.specs.Order.{version_cmp}
@@ -19,20 +19,27 @@ use Rattle.reqtable_conflicts.specs.Picking.{Picks, PicksUnder, AddsPicked, Foun
 abbrev Set : Type 0
 Set = List (Point VersionRecord)
 
-pub has_none : (lines : List KeptLine) (case : KeptCase) (set : Set) (r : Bool) → 0 < length case.numbers →
+-- without lines each point is in the range
+some_lines : (numbers : List ℕ) (lines : List KeptLine) (set : Set) → IsRangeOf (asks_at numbers lines) (Some set) →
+    holds_at version_cmp set BelowAll ≡ false → 0 < length numbers
+some_lines [] lines set is none = absurd (true≢false (sym (is.1 BelowAll) ∙ none))
+some_lines (number ∷ numbers) lines set is none = omega arith
+
+pub has_none : (lines : List KeptLine) (case : KeptCase) (set : Set) (r : Bool) →
     IsRangeOf (asks_at case.numbers lines) (Some set) →
     (IsTrue r ↔ ((p : Point VersionRecord) → holds_at version_cmp set p ≡ false)) → IsTrue r ↔ HasNoPoint lines case
-has_none lines case set r some is tells = (
-  λ t. record { some = some; usable = is.0; none = λ p. sym (is.1 p) ∙ tells.0 t p },
+has_none lines case set r is tells = (
+  λ t. record {
+    some = some_lines case.numbers lines set is (tells.0 t BelowAll);
+    usable = is.0;
+    none = λ p. sym (is.1 p) ∙ tells.0 t p;
+  },
   λ h. tells.1 (λ p. is.1 p ∙ h.none p),
 )
 
 pub none_usable : (lines : List KeptLine) (case : KeptCase) → IsRangeOf (asks_at case.numbers lines) None →
     HasNoPoint lines case → ⊥
 none_usable lines case is h = true≢false (sym h.usable ∙ is)
-
-pub none_there : (lines : List KeptLine) (case : KeptCase) → length case.numbers ≡ 0 → HasNoPoint lines case → ⊥
-none_there lines case none h = let some = h.some in absurd (omega arith)
 
 pub picked_more : (lines : List KeptLine) (cases : List KeptCase) (picked : List (List ℕ × Bool)) (case : KeptCase) → Picks lines cases picked →
     HasNoPoint lines case → Picks lines (cases ++ case ∷ []) (picked ++ told case ∷ [])

@@ -171,7 +171,7 @@ fn push_conflict(
     Ok(())
 }
 
-/// Whether the case of a package has a line, and an empty range.
+/// Whether the case of a package has an empty range, as one without lines never has.
 fn is_conflict(
     alloc: Global,
     table: &Table,
@@ -181,10 +181,6 @@ fn is_conflict(
     ensures { IfOk result (λ conflict.
         IsTrue conflict ↔ HasNoPoint (kept_under name.now table.now) (case_record case.now)) }
 {
-    let lines = case.lines(alloc)?;
-    if lines.is_empty() {
-        return Ok(false);
-    }
     match table.range(alloc, name, case)? {
         Some(range) => Ok(holds_nothing(&range)),
         None => Ok(false),

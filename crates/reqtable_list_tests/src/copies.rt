@@ -63,3 +63,12 @@ fn copies_equal_what_they_are_of(rt: HostRuntime) -> Result<(), Fail> {
     assert!(rt; are_copied(rt.alloc(), lines, "foo 1.0.0\nfoo 2\nbaz 1\n")?);
     Ok(())
 }
+
+#[test]
+fn requirements_are_made_of_their_lines(rt: HostRuntime) -> Result<(), Fail> {
+    let lines = "foo[b,a]>=1.0a1 ; os_name == 'x'\nbar @ ./c\n";
+    let (read, _) = lists_of(rt.alloc(), lines, "foo 1")?;
+    let (again, _) = lists_of(rt.alloc(), lines, "foo 1")?;
+    assert!(rt; Requirements::from_lines(read.into_lines()) == again);
+    Ok(())
+}

@@ -3,6 +3,8 @@
 #![tactic(auto)]
 
 #[cfg(test)]
+mod assumed;
+#[cfg(test)]
 mod copies;
 #[cfg(test)]
 mod covered;

@@ -5,6 +5,6 @@ pub mod OneLine
 pub mod ReadAgain
 pub mod Standing
 pub mod Alike
-pub mod Answers
+pub mod SameAnswers
 pub mod Pushing
 pub mod Unbounded

@@ -231,6 +231,17 @@ impl Requirements {
         let _ = &self.lines;
     }
 
+    /// Requirements with these lines, as `into_lines` returned them, perhaps with other markers.
+    ///
+    /// With copies of lines these could be judged apart from a table, so this is called only by the crate
+    /// that restricts requirements to a condition (`gate/lent.py`).
+    pub fn from_lines(lines: Vec<Line>) -> Requirements
+        requires { AreRead lines.items }
+        ensures { result ≡ lines.items }
+    {
+        Requirements { lines }
+    }
+
     /// The requirements in the order of the text, moved out.
     pub fn into_lines(self) -> Vec<Line>
         ensures lines { result.items ≡ self }

@@ -1,6 +1,5 @@
 -- The cases of lines whose specifiers aren't counted yet.
 use Rattle.std.specs.Prelude.{◌≡◌, ◌&&◌, ℕ, Bool, not, List, [], map}
-use Rattle.std.specs.Borrow.{Bor}
 use Rattle.pep508_tree.specs.Tree.{Tree}
 use Rattle.pep508_requirement_text.specs.FrontReading.{Front}
 use Rattle.pep440_specifier_list.specs.Lists.{any_prerelease}
@@ -10,9 +9,6 @@ use Rattle.pep508_cases.specs.Sets.{marked, marks_meet}
 use Rattle.reqtable_groups.specs.declared.given.Given.{Given}
 use Rattle.reqtable_table.specs.declared.table.Case.{Case}
 use Rattle.reqtable_table.specs.Kept.{KeptCase, kept_source}
-
-abbrev pub lent_given : List (Bor Given) → List Given
-lent_given lines = map (λ line. line.now) lines
 
 -- what a line requires, without its name
 abbrev pub given_front : Given → Front

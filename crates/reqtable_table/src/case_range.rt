@@ -39,7 +39,8 @@ impl Table {
         name: &PackageName,
         case: &Case,
     ) -> Result<Option<Ranges<Version>>, AllocError>
-        ensures { IfOk result (IsRangeOf (asks_at (case_record case.now).numbers (kept_under name.now self.now))) }
+        ensures { IfOk result
+            (IsRangeOf (asks_at (case_record case.now).numbers (kept_under name.now self.now))) }
     {
         let numbers = case.lines(alloc)?;
         let found = self

@@ -2,14 +2,14 @@
 #![tactic(auto)]
 
 mod asked;
+mod case_limit;
 mod case_range;
-mod casing;
 mod choosing_by_case;
 #[cfg(test)]
 mod fields;
 mod kept;
 pub mod lent;
-mod room;
+mod package_cases;
 mod row;
 mod runs;
 mod sieving;

@@ -27,9 +27,9 @@ ghost use Rattle.reqtable_table.specs.Kept.{KeptPackage};
 ghost use Rattle.reqtable_table.specs.KeptLines.{line_record, package_record};
 ghost use Rattle.reqtable_table.specs.Standing.{IsTable};
 
-use crate::casing::{cases_of, markers};
+use crate::case_limit::CaseLimit;
 use crate::kept::{TableLine, kept_lines};
-use crate::room::Room;
+use crate::package_cases::{cases_of, markers};
 use pep440_specifier::laws::a_read_specifier_is_built;
 use pep508_cases::{CasesError, LastCases, TreeSet};
 use pep508_name::PackageName;
@@ -60,8 +60,8 @@ pub struct Case {
 }
 
 impl Case {
-    /// The numbers of the lines in their text, in rising order. Made anew by each call, in time and memory
-    /// linear in them.
+    /// The numbers of the lines in their text, in rising order. Made anew by each call, in memory linear in
+    /// them, and in time linear in them and in the runs of the case's lines.
     ///
     /// # Errors
     ///
@@ -151,9 +151,10 @@ impl Table {
     /// The cases of each package are found by one diagram of its lines' markers (`tree_cases`), or are those
     /// of the package before it by name where its lines have the same markers in the same order. n lines of a
     /// package need at most `2 * n * limit` conjunctions. In addition the lines are sorted by name. A case
-    /// takes time and memory for the runs of its lines, parts of the package's list that are in it or not in
-    /// turn, and not for each line. No case has a range yet: that is made when the case is asked. The table
-    /// keeps what it needs of the requirements, without a second copy.
+    /// takes memory for the runs of its lines, parts of the package's list that are in it or not in turn, and
+    /// time for these and for the runs of the lines that name a pre-release, but neither for each line. No
+    /// case has a range yet: that is made when the case is asked. The table keeps what it needs of the
+    /// requirements, without a second copy.
     ///
     /// # Errors
     ///
@@ -175,7 +176,12 @@ impl Table {
         ensures counts { interner.new.conjunctions
             ≤ interner.old.conjunctions + 2 * (limit * length requirements) }
     {
-        built(alloc, requirements, interner, Room { limit, left: None })
+        built(
+            alloc,
+            requirements,
+            interner,
+            CaseLimit { limit, left: None },
+        )
     }
 
     /// The table of a text's requirements, as `build` makes it, with no more than `in_all` cases of all
@@ -209,11 +215,11 @@ impl Table {
         ensures counts { interner.new.conjunctions
             ≤ interner.old.conjunctions + 2 * (limit * length requirements) }
     {
-        let room = Room {
+        let limits = CaseLimit {
             limit,
             left: Some(in_all),
         };
-        built(alloc, requirements, interner, room)
+        built(alloc, requirements, interner, limits)
     }
 
     /// The cases of a package, ordered so that at the first line in which two differ the one that has it
@@ -243,22 +249,22 @@ fn built(
     alloc: Global,
     requirements: Requirements,
     interner: &mut Interner,
-    room: Room,
+    limits: CaseLimit,
 ) -> Result<Table, TableError>
     requires trees { AreOfNodes interner.old.nodes requirements }
     ensures built { (vars : Variables) (said : List LineRecord) →
         AllZip (StandsFor vars interner.old.nodes) requirements said →
-        BuildsBy room.limit room.left interner.new.nodes said result }
+        BuildsBy limits.limit limits.left interner.new.nodes said result }
     ensures cases { IfOk result (AllByRecursion (HasItsCases interner.new.nodes)) }
     ensures unasked { IfOk result (λ table. all_tests table ≡ 0) }
     ensures keeps { Extends interner.old.nodes interner.new.nodes }
     ensures counts { interner.new.conjunctions
-        ≤ interner.old.conjunctions + 2 * (room.limit * length requirements) }
+        ≤ interner.old.conjunctions + 2 * (limits.limit * length requirements) }
 {
     a_read_specifier_is_built();
     let groups = grouped(alloc, requirements.into_lines())?;
     let mut slots = Slots::new(alloc);
-    match packages_of(alloc, interner, groups, room, &mut slots) {
+    match packages_of(alloc, interner, groups, limits, &mut slots) {
         Ok(packages) => Ok(Table {
             packages,
             slots: slots.len(),
@@ -293,21 +299,22 @@ fn packages_of(
     alloc: Global,
     interner: &mut Interner,
     groups: Vec<Group>,
-    room: Room,
+    limits: CaseLimit,
     slots: &mut Slots,
 ) -> Result<Vec<Package>, TableError>
     requires { AllByRecursion (AreOfTrees interner.old.nodes) groups.items }
-    ensures made { IfOk result (λ made. AllZip (IsPackageOf room.limit interner.new.nodes) groups.items
+    ensures made { IfOk result (λ made. AllZip (IsPackageOf limits.limit interner.new.nodes) groups.items
         (map package_record made.items)) }
-    ensures within { IfOk result (λ made. IsWithin room.left (table_cases (map package_record made.items))) }
-    ensures refused { IfErr result (IsFirstRefusal room.limit room.left interner.new.nodes groups.items) }
+    ensures within { IfOk result (λ made.
+        IsWithin limits.left (table_cases (map package_record made.items))) }
+    ensures refused { IfErr result (IsFirstRefusal limits.limit limits.left interner.new.nodes groups.items) }
     ensures keeps { Extends interner.old.nodes interner.new.nodes }
     ensures counts { interner.new.conjunctions
-        ≤ interner.old.conjunctions + 2 * (length (lines_in groups.items) * room.limit) }
+        ≤ interner.old.conjunctions + 2 * (length (lines_in groups.items) * limits.limit) }
 {
     let mut packages = Vec::with_capacity(alloc, groups.len())?;
     let mut last = LastCases::new(alloc);
-    let mut left = room;
+    let mut left = limits;
     for group in groups {
         match package_of(alloc, interner, group, left, slots, &mut last) {
             Ok(package) => {
@@ -325,25 +332,25 @@ fn package_of(
     alloc: Global,
     interner: &mut Interner,
     group: Group,
-    room: Room,
+    limits: CaseLimit,
     slots: &mut Slots,
     last: &mut LastCases,
 ) -> Result<Package, TableError>
     requires trees { AreOfTrees interner.old.nodes group }
     requires last { IsLast interner.old.nodes last.old }
-    ensures made { IfOk result (λ made. IsPackageOf (most_cases room.limit room.left) interner.new.nodes group
-        (package_record made)) }
-    ensures refused { IfErr result (IsRefusal room.limit room.left interner.old.nodes group) }
+    ensures made { IfOk result (λ made.
+        IsPackageOf (most_cases limits.limit limits.left) interner.new.nodes group (package_record made)) }
+    ensures refused { IfErr result (IsRefusal limits.limit limits.left interner.old.nodes group) }
     ensures last { IsLast interner.new.nodes last.new }
     ensures keeps { Extends interner.old.nodes interner.new.nodes }
     ensures counts { interner.new.conjunctions
-        ≤ interner.old.conjunctions + 2 * (length group.lines.items * room.limit) }
+        ≤ interner.old.conjunctions + 2 * (length group.lines.items * limits.limit) }
 {
     let Group { name, lines } = group;
     let trees = markers(alloc, &lines)?;
-    match last.find(alloc, interner, trees, room.most()) {
+    match last.find(alloc, interner, trees, limits.most()) {
         Ok(()) => (),
-        Err(CasesError::TooMany) => return Err(room.refusal(name)),
+        Err(CasesError::TooMany) => return Err(limits.refusal(name)),
         Err(CasesError::Memory) => return Err(TableError::Memory),
     }
     let cases = cases_of(alloc, &lines, last.cases())?;

@@ -125,6 +125,22 @@ pub enum Covers {
 /// What `same` and `covers` print of a place in all environments, instead of a marker.
 const EVERYWHERE: &str = "all environments";
 
+/// The marker that is printed as a place, or `None` if that is everywhere.
+fn marker_at(place: &str) -> Option<String> {
+    (place != EVERYWHERE).then(|| place.to_owned())
+}
+
+/// What is printed of a marker that `marker_at` has read.
+fn place_of(marker: Option<&str>) -> &str {
+    marker.unwrap_or(EVERYWHERE)
+}
+
+/// The numbers of lines as they are printed.
+fn numbers_of(lines: &[usize]) -> String {
+    let numbers: Vec<String> = lines.iter().map(usize::to_string).collect();
+    numbers.join(",")
+}
+
 impl Row {
     /// The row of a line that the library has printed, in which versions have their normal texts.
     pub(crate) fn of_printed(line: &str) -> Row {
@@ -216,9 +232,8 @@ impl FromStr for Conflict {
 
 impl fmt::Display for Conflict {
     fn fmt(&self, f: &mut fmt::Formatter<'_>) -> fmt::Result {
-        let numbers: Vec<String> = self.lines.iter().map(usize::to_string).collect();
         let end = if self.names_prerelease { " pre" } else { "" };
-        write!(f, "{} {}{end}", self.package, numbers.join(","))
+        write!(f, "{} {}{end}", self.package, numbers_of(&self.lines))
     }
 }
 
@@ -234,7 +249,7 @@ impl FromStr for Same {
         let parts = grammar::same(text).map_err(|it| refused("comparison", it, text))?;
         Ok(parts.map_or(Same::Yes, |(package, place)| Same::No {
             package: package.to_owned(),
-            marker: Some(place).filter(|it| *it != EVERYWHERE).map(String::from),
+            marker: marker_at(place),
         }))
     }
 }
@@ -244,11 +259,7 @@ impl fmt::Display for Same {
         match self {
             Same::Yes => f.pad("yes"),
             Same::No { package, marker } => {
-                write!(
-                    f,
-                    "no\n{package}\n{}",
-                    marker.as_deref().unwrap_or(EVERYWHERE)
-                )
+                write!(f, "no\n{package}\n{}", place_of(marker.as_deref()))
             }
         }
     }
@@ -266,9 +277,7 @@ impl FromStr for Covers {
         let parts = grammar::covers(text).map_err(|it| refused("covering", it, text))?;
         Ok(parts.map_or(Covers::Yes, |it| Covers::No {
             package: it.package.to_owned(),
-            marker: Some(it.place)
-                .filter(|it| *it != EVERYWHERE)
-                .map(String::from),
+            marker: marker_at(it.place),
             lines: it.lines,
         }))
     }
@@ -283,9 +292,8 @@ impl fmt::Display for Covers {
                 marker,
                 lines,
             } => {
-                let place = marker.as_deref().unwrap_or(EVERYWHERE);
-                let numbers: Vec<String> = lines.iter().map(usize::to_string).collect();
-                write!(f, "no\n{package}\n{place}\n{}", numbers.join(","))
+                let (place, numbers) = (place_of(marker.as_deref()), numbers_of(lines));
+                write!(f, "no\n{package}\n{place}\n{numbers}")
             }
         }
     }

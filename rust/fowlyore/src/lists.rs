@@ -1,8 +1,9 @@
-//! Lists of requirements: the five commands of the program `reqs`, over texts, within the usual bounds or others.
+//! Lists of requirements: the six commands of the program `reqs`, over texts, within the usual bounds or others.
 
 use crate::elements::elements;
 use crate::native::{self, Format};
 use crate::{grammar, Bounds, Conflict, Covers, Refused, Row, Same};
+use std::str::FromStr;
 
 /// The default limit on the cases of a package.
 pub const LIMIT: u64 = 4096;
@@ -174,6 +175,18 @@ fn rows_of(text: &str) -> Vec<Row> {
 
 fn lines_of(text: &str) -> std::str::SplitTerminator<'_, char> {
     grammar::lines(text).expect("the library prints whole lines")
+}
+
+/// What the library answers of two lists: yes, or what it prints of the first package and place where not.
+fn related<Answer: FromStr<Err = Refused>>(answer: native::Answer, yes: Answer) -> Answer {
+    if !answer.is_different {
+        return yes;
+    }
+    let text = answer.text();
+    let printed = text.strip_suffix('\n').unwrap_or(&text);
+    printed
+        .parse()
+        .expect("the library prints a package and a place")
 }
 
 /// Whether two lists require the same of each package: whether it is required, its extras, its version range,
@@ -427,12 +440,7 @@ impl Bounds {
     /// As those of [`same`], beyond these bounds.
     pub fn same(self, left: &[u8], right: &[u8], limit: u64) -> Result<Same, Refused> {
         let answer = native::same(left, right, limit, self, Format::Text)?;
-        if !answer.is_different {
-            return Ok(Same::Yes);
-        }
-        let text = answer.text();
-        let printed = text.strip_suffix('\n').unwrap_or(&text);
-        Ok(printed.parse().expect("the library prints a difference"))
+        Ok(related(answer, Same::Yes))
     }
 
     /// The JSON of [`same_json`] within these bounds.
@@ -465,12 +473,7 @@ impl Bounds {
     /// As those of [`covers`], beyond these bounds.
     pub fn covers(self, lock: &[u8], requirements: &[u8], limit: u64) -> Result<Covers, Refused> {
         let answer = native::covers(lock, requirements, limit, self, Format::Text)?;
-        if !answer.is_different {
-            return Ok(Covers::Yes);
-        }
-        let text = answer.text();
-        let printed = text.strip_suffix('\n').unwrap_or(&text);
-        Ok(printed.parse().expect("the library prints a place"))
+        Ok(related(answer, Covers::Yes))
     }
 
     /// The JSON of [`covers_json`] within these bounds.

@@ -35,7 +35,8 @@ impl Refused {
     pub fn is_of_clauses(&self) -> bool {
         let counted = self.excess();
         counted.map_or(false, |it| {
-            it == "clauses" || it.starts_with("clauses for ")
+            let package = it.strip_prefix("clauses for ");
+            it == "clauses" || package.map_or(false, |name| name.bytes().all(is_of_name))
         })
     }
 
@@ -46,19 +47,31 @@ impl Refused {
         self.excess() == Some("cases in all")
     }
 
-    /// What there is more of than a bound, as it is said after the number, behind the place in a list.
+    /// What there is more of than a bound, as it is said after the number. Nothing but the name of an input and
+    /// the number of a line stands before that: what follows a `: ` elsewhere may be of a text that was refused.
     fn excess(&self) -> Option<&str> {
-        let said = self
-            .message
-            .rsplit(": ")
-            .next()?
-            .strip_prefix("more than ")?;
-        let (number, counted) = said.split_once(' ')?;
-        number
-            .bytes()
-            .all(|it| it.is_ascii_digit())
-            .then_some(counted)
+        let of_input = |it: &str| it.bytes().all(|byte| byte.is_ascii_lowercase());
+        let of_line = |it: &str| it.strip_prefix("line ").map_or(false, is_number);
+        let said = behind(behind(&self.message, of_input), of_line);
+        let (number, counted) = said.strip_prefix("more than ")?.split_once(' ')?;
+        is_number(number).then_some(counted)
     }
+}
+
+/// What stands behind the first `: ` of a text, if what stands before that is so; otherwise the text.
+fn behind(text: &str, is_so: impl Fn(&str) -> bool) -> &str {
+    match text.split_once(": ") {
+        Some((front, rest)) if is_so(front) => rest,
+        _ => text,
+    }
+}
+
+fn is_number(text: &str) -> bool {
+    text.bytes().all(|it| it.is_ascii_digit())
+}
+
+fn is_of_name(byte: u8) -> bool {
+    byte.is_ascii_lowercase() || byte.is_ascii_digit() || byte == b'-'
 }
 
 impl fmt::Display for Refused {

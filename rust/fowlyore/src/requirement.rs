@@ -7,7 +7,8 @@ use std::str::FromStr;
 
 /// A requirement, of one line. Requirements are equal if their fields are, and ordered by their names, then
 /// by the fields after it. Requirements that only differ in their markers are ordered by the keys of these
-/// ([`MarkerTree`]).
+/// ([`MarkerTree`]). So comparing those, and hashing any, panics for a marker whose tree has more nodes than
+/// [`Bounds::default`](crate::Bounds::default), unless its key was asked for within other bounds before.
 ///
 /// ```
 /// use fowlyore::Requirement;

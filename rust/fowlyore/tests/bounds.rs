@@ -68,6 +68,21 @@ fn too_many_clauses_are_refused() {
 }
 
 #[test]
+fn no_text_that_is_refused_makes_it_a_bound() {
+    for counted in ["nodes", "clauses", "clauses for b", "cases in all"] {
+        let said = format!("more than 3 {counted}");
+        let lists = [format!("foo=1 ; x: {said}\n"), format!(": {said}\n")];
+        let markers = ["a: ", "line 3: ", "a: line 3: ", ""].map(|it| format!("{it}{said}\nb"));
+        let of_lists = lists.map(|it| fowlyore::normal(it.as_bytes()).unwrap_err());
+        let of_markers = markers.map(|it| it.parse::<MarkerTree>().unwrap_err());
+        for refused in of_lists.iter().chain(&of_markers) {
+            assert!(refused.message.contains(&said), "{refused}");
+            assert!(!refused.is_of_nodes() && !refused.is_of_clauses() && !refused.is_of_cases());
+        }
+    }
+}
+
+#[test]
 fn what_makes_no_tree_needs_no_bound() {
     for text in [nodes_grow(), clauses_grow()] {
         let marker = read(&text);

@@ -54,7 +54,7 @@ fn status_of_child(shared: &MarkerTree) -> i32 {
     unsafe {
         let process = fork();
         if process == 0 {
-            alarm(20);
+            alarm(600);
             let fine = panic::catch_unwind(|| works(shared)).unwrap_or(false);
             _exit(i32::from(!fine));
         }

@@ -1,4 +1,4 @@
-use Rattle.reqtable_normal.proofs.Answers.{its_own}
+use Rattle.reqtable_normal.proofs.SameAnswers.{its_own}
 use Rattle.reqtable_normal.proofs.laws.a_normal_text_is_its_own.Goals as goal
 
 pub returns : goal.returns

@@ -1,4 +1,4 @@
-use Rattle.reqtable_normal.proofs.Answers.{reads_as, same_answers}
+use Rattle.reqtable_normal.proofs.SameAnswers.{reads_as, same_answers}
 use Rattle.reqtable_normal.proofs.laws.a_normal_text_reads_back.Goals as goal
 
 pub returns-clause-read : goal.returns-clause-read

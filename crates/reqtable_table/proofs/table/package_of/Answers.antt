@@ -36,7 +36,7 @@ returns-clause-made c =
     subst (λ l. AllZip (IsCaseOfGiven l) cases sets) c.deref-2.ensures.value
     (subst (λ ss. AllZip (IsCaseOfGiven c.deref-2.result.now) cases (cases_seen ss)) c.cases.ensures c.in_ok-cases.ensures) in
     let long = as_long (IsCaseOfGiven lines) cases sets each in
-    let few : length found ≤ most_cases c.args.room.limit c.args.room.left =
+    let few : length found ≤ most_cases c.args.limits.limit c.args.limits.left =
     subst (λ n. length found ≤ n) c.most.ensures c.in-Ok.ensures.few in
     let counted = length-map found case_seen in
     record {
@@ -51,11 +51,11 @@ returns-clause-made c =
 pub returns-clause-counts : goal.returns-clause-counts
 returns-clause-counts c =
     let lines = c.args.group.lines.items in
-    let room = c.args.room in
+    let limits = c.args.limits in
     let old = c.args.interner.now.conjunctions in
     let new = c.find.new.interner.conjunctions in
     let long : length c.in_ok-trees.trees.items ≡ length lines =
     ap length (c.in_ok-trees.ensures ∙ ap markers c.deref.ensures.value) ∙ length-map lines (λ (line : Given). line.marker) in
-    fewer_conjunctions (length lines) (most_cases room.limit room.left) room.limit old new (most_at_most room.limit room.left)
+    fewer_conjunctions (length lines) (most_cases limits.limit limits.left) limits.limit old new (most_at_most limits.limit limits.left)
     (subst (λ n. new ≤ old + 2 * (length lines * n)) c.most.ensures
     (subst (λ n. new ≤ old + 2 * (n * c.most.result)) long c.in-Ok.ensures.counts))

@@ -23,13 +23,13 @@ loop-group-init c =
       done = tt;
       left = search rules;
       made =
-          subst (λ ps. AllZip (IsPackageOf c.args.room.limit c.args.interner.now.nodes) [] (map package_record ps))
+          subst (λ ps. AllZip (IsPackageOf c.args.limits.limit c.args.interner.now.nodes) [] (map package_record ps))
           (sym c.in_ok-packages.ensures.items) tt;
       last = c.new-last.ensures c.args.interner.now.nodes;
       limit = refl;
       is_left =
-          subst (λ ps. IsLeft c.args.room.left (table_cases (map package_record ps)) c.args.room.left)
-          (sym c.in_ok-packages.ensures.items) (nothing_made c.args.room.left);
+          subst (λ ps. IsLeft c.args.limits.left (table_cases (map package_record ps)) c.args.limits.left)
+          (sym c.in_ok-packages.ensures.items) (nothing_made c.args.limits.left);
     }
 
 pub package_of-requires-clause-trees : goal.package_of-requires-clause-trees
@@ -49,7 +49,7 @@ loop-group-preserved c =
     let done = c.loop-group.yielded in
     let group = c.in-Some.group in
     let rest = into_iter_items c.next.new.self in
-    let limit = c.args.room.limit in
+    let limit = c.args.limits.limit in
     let before = c.loop-group.invariant in
     let own = c.loop-group.left.left in
     let kept = package_record c.in-Ok.package in
@@ -80,9 +80,9 @@ loop-group-preserved c =
       last = c.in-Ok.ensures.last;
       limit = c.after-left.ensures.limit ∙ before.limit;
       is_left =
-          subst (λ l. IsLeft c.args.room.left (table_cases (map package_record c.push.new.self.items)) l)
+          subst (λ l. IsLeft c.args.limits.left (table_cases (map package_record c.push.new.self.items)) l)
           (sym c.after-left.ensures.left)
-          (left_after limit c.args.room.left (table_cases old_table)
+          (left_after limit c.args.limits.left (table_cases old_table)
           (table_cases (map package_record c.push.new.self.items)) (length c.deref.result.now) own
           (ap table_cases pushed ∙ table_pushed old_table kept ∙ ap (λ n. table_cases old_table + n) count)
           (subst (λ n. n ≤ most_cases limit own) count made.few) before.is_left);
@@ -96,7 +96,7 @@ returns-in_err-push-in-Ok-clause-counts c =
     let taken : into_iter_items c.loop-group.group-iterator ≡ group ∷ rest = search rules in
     let whole : (done ++ group ∷ []) ++ rest ≡ c.args.groups.items =
     append_assoc done (group ∷ []) rest ∙ ap (λ l. done ++ l) (sym taken) ∙ c.loop-group.invariant.split in
-    so_far done group rest c.args.groups.items c.args.room.limit c.args.interner.now.conjunctions c.loop-group.interner.conjunctions
+    so_far done group rest c.args.groups.items c.args.limits.limit c.args.interner.now.conjunctions c.loop-group.interner.conjunctions
     c.package_of.new.interner.conjunctions c.loop-group.invariant.counts
     (subst (λ n. c.package_of.new.interner.conjunctions ≤ c.loop-group.interner.conjunctions + 2 * (length group.lines.items * n))
     c.loop-group.invariant.limit c.in-Ok.ensures.counts) whole
@@ -110,7 +110,7 @@ returns-in-Err-clause-refused c =
     let taken : into_iter_items c.loop-group.group-iterator ≡ group ∷ rest = search rules in
     let left : AllByRecursion (AreOfTrees start) (group ∷ rest) =
     subst (AllByRecursion (AreOfTrees start)) taken c.loop-group.invariant.left in
-    first_refused c.args.room.limit c.args.room.left c.loop-group.interner.nodes c.package_of.new.interner.nodes done group rest
+    first_refused c.args.limits.limit c.args.limits.left c.loop-group.interner.nodes c.package_of.new.interner.nodes done group rest
     c.args.groups.items (map package_record c.loop-group.packages.items) c.loop-group.left.left c.in-Err.error c.in-Err.ensures.keeps
     (of_trees_on start c.loop-group.interner.nodes group c.loop-group.invariant.keeps left.0)
     (sym (ap (λ l. done ++ l) (sym taken) ∙ c.loop-group.invariant.split)) c.loop-group.invariant.made c.loop-group.invariant.is_left
@@ -125,12 +125,12 @@ returns-in-Err-clause-counts c =
     let taken : into_iter_items c.loop-group.group-iterator ≡ group ∷ rest = search rules in
     let whole : (done ++ group ∷ []) ++ rest ≡ c.args.groups.items =
     append_assoc done (group ∷ []) rest ∙ ap (λ l. done ++ l) (sym taken) ∙ c.loop-group.invariant.split in
-    so_far done group rest c.args.groups.items c.args.room.limit c.args.interner.now.conjunctions c.loop-group.interner.conjunctions
+    so_far done group rest c.args.groups.items c.args.limits.limit c.args.interner.now.conjunctions c.loop-group.interner.conjunctions
     c.package_of.new.interner.conjunctions c.loop-group.invariant.counts
     (subst (λ n. c.package_of.new.interner.conjunctions ≤ c.loop-group.interner.conjunctions + 2 * (length group.lines.items * n))
     c.loop-group.invariant.limit c.in-Err.ensures.counts) whole
 
 pub returns-clause-within : goal.returns-clause-within
 returns-clause-within c =
-    is_within c.args.room.left (table_cases (map package_record c.loop-group.packages.items)) c.loop-group.left.left
+    is_within c.args.limits.left (table_cases (map package_record c.loop-group.packages.items)) c.loop-group.left.left
     c.loop-group.invariant.is_left

@@ -12,12 +12,12 @@ use Rattle.reqtable_table.proofs.table.packages_of.Given as goal
 abbrev pub invariant-loop-group : goal.invariant-loop-group
 invariant-loop-group l = record {
   keeps : Extends l.fn.interner.nodes l.interner.nodes;
-  counts : l.interner.conjunctions ≤ l.fn.interner.conjunctions + 2 * (length (lines_in l.yielded) * l.fn.room.limit);
+  counts : l.interner.conjunctions ≤ l.fn.interner.conjunctions + 2 * (length (lines_in l.yielded) * l.fn.limits.limit);
   split : l.yielded ++ into_iter_items l.group-iterator ≡ l.fn.groups.items;
   done : AllByRecursion (AreOfTrees l.fn.interner.nodes) l.yielded;
   left : AllByRecursion (AreOfTrees l.fn.interner.nodes) (into_iter_items l.group-iterator);
-  made : AllZip (IsPackageOf l.fn.room.limit l.interner.nodes) l.yielded (map package_record l.packages.items);
+  made : AllZip (IsPackageOf l.fn.limits.limit l.interner.nodes) l.yielded (map package_record l.packages.items);
   last : IsLast l.interner.nodes l.last;
-  limit : l.left.limit ≡ l.fn.room.limit;
-  is_left : IsLeft l.fn.room.left (table_cases (map package_record l.packages.items)) l.left.left;
+  limit : l.left.limit ≡ l.fn.limits.limit;
+  is_left : IsLeft l.fn.limits.left (table_cases (map package_record l.packages.items)) l.left.left;
 }

@@ -5,7 +5,7 @@ use Rattle.reqtable_table.specs.Casing.{is_naming, case_record, IsCaseBy, IsCase
 use Rattle.reqtable_groups.specs.declared.given.Given.{Given}
 use Rattle.reqtable_table.proofs.OfGiven.{of_given}
 use Rattle.reqtable_table.proofs.Packages.{zip_pushed}
-use Rattle.reqtable_table.proofs.casing.cases_of.Goals as goal
+use Rattle.reqtable_table.proofs.package_cases.cases_of.Goals as goal
 
 pub loop-set-preserved : goal.loop-set-preserved
 loop-set-preserved c =

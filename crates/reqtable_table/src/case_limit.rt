@@ -9,12 +9,12 @@ use pep508_name::PackageName;
 /// How many cases there may be of each package that is still to come, and, if that is bounded, of all of them
 /// together.
 #[derive(Clone, Copy)]
-pub(crate) struct Room {
+pub(crate) struct CaseLimit {
     pub(crate) limit: u64,
     pub(crate) left: Option<u64>,
 }
 
-impl Room {
+impl CaseLimit {
     /// The most cases that the next package may have.
     pub(crate) fn most(self) -> u64
         ensures { result ≡ most_cases self.limit self.left }
@@ -25,8 +25,8 @@ impl Room {
         }
     }
 
-    /// The room that a package with these cases leaves.
-    pub(crate) fn after(self, cases: &[Case]) -> Room
+    /// The limit for the packages after one with these cases.
+    pub(crate) fn after(self, cases: &[Case]) -> CaseLimit
         ensures limit { result.limit ≡ self.limit }
         ensures left { result.left ≡ option_map (λ left. left - length cases.now) self.left }
     {
@@ -34,7 +34,7 @@ impl Room {
             None => None,
             Some(left) => Some(left.saturating_sub(cases.len() as u64)),
         };
-        Room {
+        CaseLimit {
             limit: self.limit,
             left,
         }

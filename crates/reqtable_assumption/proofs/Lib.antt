@@ -1,0 +1,3 @@
+pub mod Asked
+pub mod Conflicting
+pub mod Standing

@@ -1,0 +1,2 @@
+pub mod Where
+pub mod Restricted
