@@ -4,7 +4,8 @@ These are held: of each public function its signature and each clause; of each p
 it has an `impl Model` the members of that; of each public trait its members; of each impl of a public trait for a public
 type its head, members and clauses; each public constant, and each name that is passed on. Of a type that is not public its
 model is held, by which a public type may be seen, and it itself where a definition takes it from the sources (`declared`).
-Private functions, bodies and tests are not.
+Private functions, bodies and tests are not; but of a crate of tests each function with an `ensures` is, which shows what callers
+can prove.
 
 A part's text ends with the imports of the names in it: of a clause the `ghost use` lines, of other code the `use` lines.
 """
@@ -102,7 +103,7 @@ class Source:
     """A file of a crate's sources, and what of it is held."""
 
     def __init__(self, crate, path, text, types):
-        self.path, self.types, self.found = path, types, []
+        self.path, self.types, self.found, self.holds_callers = path, types, [], False
         self.plain, self.bare = apart(text)
         folders = os.path.splitext(os.path.relpath(path, os.path.join(crate.folder, "src")))[0].split(os.sep)
         modules = folders[: -1 if folders[-1] in ("lib", "main", "mod") else len(folders)]
@@ -147,6 +148,11 @@ class Source:
         """The match of what makes the bracket at a place a clause's, or None."""
         return CLAUSE.search(self.bare, max(0, at - 120), at)
 
+    def is_caller(self, head, after):
+        """Whether a function says what it ensures."""
+        clauses = [self.clause_at(it.start()) for it in BRACKET.finditer(self.bare, head.end(), after) if it[0] == "{"]
+        return any(it and it["kind"] == "ensures" for it in clauses)
+
     def line(self, at):
         return self.plain.count("\n", 0, at) + 1
 
@@ -183,7 +189,7 @@ class Source:
                 self.read_impl(head, after, scope, front)
             elif head["kind"] == "use":
                 self.read_use(head, after, front, is_public)
-            elif head["kind"] == "fn" and is_public:
+            elif head["kind"] == "fn" and (is_public or self.holds_callers and self.is_caller(head, after)):
                 self.read_function(head, after, scope, name)
             elif head["kind"] in TYPES and (is_public or self.types.is_declared(head["name"])):
                 self.read_type(head, attributes, after, scope, name)
@@ -302,8 +308,9 @@ def declared_in_specs(crates):
     return taken
 
 
-def contracts(crate, taken):
-    """The public contracts of a crate, part by part; `taken` has the types that definitions take from its sources."""
+def contracts(crate, taken, holds_callers=False):
+    """The public contracts of a crate, part by part; `taken` has the types that definitions take from its sources. Of a crate of
+    tests those of its proved callers stand beside them."""
     sources = []
     for path in crate.text_files():
         if path.startswith(os.path.join(crate.folder, "src")) and path.endswith(".rt"):
@@ -311,5 +318,5 @@ def contracts(crate, taken):
                 sources.append(Source(crate, path, file.read(), None))
     types = Types(sources, taken)
     for it in sources:
-        it.types = types
+        it.types, it.holds_callers = types, holds_callers
         yield from it.read()

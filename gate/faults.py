@@ -142,6 +142,8 @@ FAULTS = [
           "  pub is_list : IsListIn bytes members\n  pub is_text : text ≡ map", "  pub is_text : text ≡ map"),
     Fault("a mutant that nothing notices, for no reason", None, MUTANTS,
           "tests/unnoticed.txt", "docs/GATE.md.\n", f"docs/GATE.md.\n\n{UNNOTICED}\n"),
+    Fault("a proved caller that says nothing", None, HELD, "crates/reqtable_list_tests/src/twice.rt",
+          "\n    ensures { IfOk result (λ tests. tests\n", "\n    ensures { IfOk result (λ tests. tests ≡ tests) }\n    requires { IfOk result (λ tests. tests\n"),
     Fault("a contract without one of its clauses", None, HELD, "crates/pep440_version/src/version.rt",
           "        ensures grown { result ≡ Err errors.Memory → version_reading text.now ≢ Err NoLeadingNumber }\n", ""),
     Fault("a claim of README.md that says more", None, HELD, "README.md",

@@ -4,8 +4,8 @@
     held.py
 
 A proof says no more than its statement, so none may change unseen. The list has each definition of specs/ and each
-part of a public contract (statements.py and clauses.py say which) by name, with the sum of its text and of the imports
-of the names in it; so it has what documents say is proved (claims.py), which handles functions may take (HANDLES: one that
+part of a public contract, or of a proved caller's among the tests (statements.py and clauses.py say which), by name, with the
+sum of its text and of the imports of the names in it; so it has what documents say is proved (claims.py), which handles functions may take (HANDLES: one that
 may wait need not end), and each other name under which a definition is passed on. One that differs, is new or is gone fails;
 `./test --accept NAME..` takes it. A change of comments or of layout is none: so a file fails of which the toolchain reads
 other words than stand there without what is a comment here. The last line is `N passed, M failed`, a name each.
@@ -37,7 +37,7 @@ def held():
     taken = declared_in_specs(crates)
     of_crates = []
     for crate in crates.values():
-        of_crates += [*definitions(crate), *renamed(crate), *contracts(crate, taken[crate.name])]
+        of_crates += [*definitions(crate), *renamed(crate), *contracts(crate, taken[crate.name], crate.name.endswith("_tests"))]
     for it in [*of_crates, *claims(), *handles()]:
         # (two of one name are told apart by their order)
         name, at = it.name, 2

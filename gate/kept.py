@@ -14,6 +14,9 @@ proved twice: they wait for it.
 
 None is made before those below are there, and what lay in out/ is removed first. What a run from nothing proved is taken
 only where all below it are, since its libraries hold statements alone, which fit just those over which they were made.
+
+A crate of which the store never had a proof is proved as a run from nothing does: a check near the top takes some seconds to
+load statements, and minutes to load whole libraries. So an empty store is filled in a third less time.
 """
 
 import os
@@ -86,9 +89,12 @@ class KeptProver(Prover):
         return next((it for it in FITS if is_there and self.entry_in(it, name, tests) == mark), None)
 
     def form_by_store(self, name, tests):
-        below = {self.form(it) for it in self.crates[name].uses}
-        fits = below <= FITS[NOTHING]
-        return NOTHING if fits and self.store.has(self.entry_in(NOTHING, name, tests), self.parts(name, tests)) else WHOLE
+        """The form of a run from nothing where all below have it, and the store has that, or had no proof of the crate yet: a first
+        proof costs least so. What changes after it will change again, and is proved whole."""
+        if not {self.form(it) for it in self.crates[name].uses} <= FITS[NOTHING]:
+            return WHOLE
+        is_there = self.store.has(self.entry_in(NOTHING, name, tests), self.parts(name, tests))
+        return NOTHING if is_there or not self.store.verdict(self.mark(name, tests)) else WHOLE
 
     def entry_in(self, form, name, tests):
         kind = self.kind(name, tests)
@@ -124,7 +130,7 @@ class KeptProver(Prover):
         return super().in_lanes(made)
 
     def loading(self, name):
-        return SECONDS_A_LINE_BELOW * sum(it.lines() for it in self.crates.below(name))
+        return SECONDS_A_LINE_BELOW * sum(it.lines() for it in self.crates.below(name) if self.form(it.name) == WHOLE)
 
     def seconds(self, name, tests, lines):
         if self.only_loads(name, tests):

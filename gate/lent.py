@@ -6,7 +6,7 @@
 `Interner::conjunctions` counts what a caller asks for, so that a promise on how many there are binds all that a
 crate does. A call that isn't counted is public only since other crates of trees need it. Who makes a table of
 requirements gives them away, so that its answers come from the table; a copy of requirements, or a table of some
-that are lent, is for the calls on whole lists. LENT has such calls, each with the crate that has it and those that
+that are lent, is for the calls on whole lists. LENT has such calls, and modules of them, each with the crate that has it and those that
 may name it; nobody may pass one on by `pub use`, and no other crate's source may name it. Fails too where one of
 those crates has no use for it. Comments, texts and clauses don't count. The last line is `N passed, M failed`, a crate
 each.
@@ -32,6 +32,7 @@ LENT = {
     "packages_table": ("reqtable_packages", ("reqtable_conflicts", "reqtable_compare")),
     "package_count": ("reqtable_table", ("reqs_answers", "reqtable_tests")),
     "row_among": ("reqtable_table", ("reqs_rows",)),
+    "reqtable_table::lent": ("reqtable_table", ("reqs_answers", "reqs_rows", "reqtable_tests")),
 }
 PASSED_ON = re.compile(r"\bpub use ([^;]+);")
 
@@ -47,10 +48,18 @@ def sources(crate):
     return found
 
 
+def named(name, is_owner):
+    """How sources name a lent call, or a module of such calls, by its crate's name; the crate itself makes it public."""
+    crate, is_module, module = name.rpartition("::")
+    if not is_module:
+        return rf"\b{name}\b"
+    return rf"\bpub mod {module}\b" if is_owner else rf"\b{crate}::(?:\{{[^;]*\b)?{module}\b"
+
+
 def fault(crate, name, owner, borrowers):
     """What is wrong with how a crate names a lent call, or None."""
     texts = sources(crate)
-    word = re.compile(rf"\b{name}\b")
+    word = re.compile(named(name, crate.name == owner))
     naming = [path for path, text in texts.items() if word.search(text)]
     passing = [path for path, text in texts.items() for it in PASSED_ON.findall(text) if word.search(it)]
     if crate.name == owner:

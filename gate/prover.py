@@ -46,6 +46,10 @@ class Prover:
         """The name in the store of what was proved of a crate or of its tests."""
         return f"{keys.of_proof(self.crates, name)}.{self.kind(name, tests)}"
 
+    def mark(self, name, tests=False):
+        """The name in the store of the word that it had a proof of a crate or of its tests, whatever their texts were then."""
+        return f"{name}.{self.kind(name, tests)}.known"
+
     def parts(self, name, tests=False):
         """What lies in out/ once a crate or its tests are proved. An entry that lacks any of it is none."""
         programs = [name, f"{name}.by-rattle"]
@@ -94,6 +98,7 @@ class Prover:
         if is_library:
             write(os.path.join(out, "rlib", MARK), entry)
         self.store.keep(entry, out, ["rlib"] if is_library else self.parts(crate.name, tests))
+        self.store.keep_verdict(self.mark(crate.name, tests), entry)
 
     def lay_out(self, name):
         """Has a library that was proved or kept in its crate's out/, and says whether it is there."""

@@ -190,7 +190,10 @@ def through_kept_work():
     """What isn't as it has to be of proofs over what was proved before."""
     with tempfile.TemporaryDirectory() as folder, tempfile.TemporaryDirectory(prefix="reqs-faults-") as room:
         tree = TwoCrates(room, folder)
-        tree.proved(LOW)
+        over = lambda form: lambda status, said: status == 0 and "logic=proved" in said and f"\n{form} low: " in said
+        yield Tried("a first proof, over statements", tree.amiss(LOW, over("statements")))
+        low = LOW.replace(BODY, "    2 * x\n")
+        yield Tried("a first change below, over a whole library", tree.amiss(low, over("library")))
         low = LOW.replace(BODY, "    (x + x)\n")
         yield Tried("a private body below", tree.amiss(low, lambda status, said: status == 0 and not said))
         low = LOW.replace(BODY, "    x + x + 1\n")

@@ -39,9 +39,11 @@ use std::io::{Read, Write};
 /// The size of the output buffer, in bytes.
 const WAITING_BYTES: usize = 65_536;
 
-/// The options of a run.
+/// What a run is asked beside its inputs and the interner.
 #[derive(Clone, Copy)]
-struct Request {
+struct Request<'a> {
+    extras: &'a [&'a str],
+    vars: &'a Vars,
     limit: u64,
     format: Format,
     bounds: Bounds,
@@ -141,6 +143,8 @@ pub fn matrix_within<L: Read, E: Read, C: Read, W: Write>(
     let mut environments = read_input(alloc, Input::Second, environments)?;
     let mut candidates = read_input(alloc, Input::Third, candidates)?;
     let request = Request {
+        extras,
+        vars,
         limit,
         format,
         bounds,
@@ -150,8 +154,6 @@ pub fn matrix_within<L: Read, E: Read, C: Read, W: Write>(
         &mut requirements,
         &mut environments,
         &mut candidates,
-        extras,
-        vars,
         request,
         interner,
     )?;
@@ -178,27 +180,26 @@ fn matrix_text(
     requirements: &mut Vec<u8>,
     environments: &mut Vec<u8>,
     candidates: &mut Vec<u8>,
-    extras: &[&str],
-    vars: &Vars,
-    request: Request,
+    request: Request<'_>,
     interner: &mut Interner,
 ) -> Result<Pieces, RunFault>
     requires { length interner.old.nodes ≤ request.bounds.nodes }
-    ensures { let texts = texts_of (environments_from Second) vars.now (map (λ e. e.now) extras.now)
+    ensures { let texts = texts_of (environments_from Second) request.vars.now
+        (map (λ e. e.now) request.extras.now)
         requirements.old.items environments.old.items candidates.old.items in
-        Bounded (λ text. AnswersAll (IsOfTexts vars.now First requirements.old.items)
+        Bounded (λ text. AnswersAll (IsOfTexts request.vars.now First requirements.old.items)
         request.format request.limit request.bounds.cases text texts)
         (length interner.new.nodes ≤ request.bounds.nodes)
-        (PassesIn request.bounds interner.new.nodes request.limit vars.now requirements.old.items texts)
-        result }
+        (PassesIn request.bounds interner.new.nodes request.limit request.vars.now requirements.old.items
+        texts) result }
 {
-    let extras = read_extras(alloc, extras)?;
+    let extras = read_extras(alloc, request.extras)?;
     let requirements = requirements_within(
         alloc,
         Input::First,
         requirements,
         interner,
-        vars,
+        request.vars,
         request.bounds.nodes,
     )?;
     matrix_behind(
@@ -220,7 +221,7 @@ fn matrix_behind(
     extras: &[ExtraName],
     environments: &mut Vec<u8>,
     candidates: &mut Vec<u8>,
-    request: Request,
+    request: Request<'_>,
 ) -> Result<Pieces, RunFault>
     requires { AreRead interner.old.nodes requirements }
     ensures { (vars : Variables) (said : List LineRecord) →

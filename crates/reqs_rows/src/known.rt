@@ -28,7 +28,8 @@ pub(crate) fn keep(
     place: usize,
     piece: usize,
 ) -> Result<(), AllocError>
-    ensures { OnOk result ((at found : ℕ) → get_or pieces.new.items at None ≡ Some found →
+    ensures kept { OnOk result (get_or pieces.new.items place None ≡ Some piece) }
+    ensures known { OnOk result ((at found : ℕ) → get_or pieces.new.items at None ≡ Some found →
         ((at ≡ place) × (piece ≡ found)) ⊎ (get_or pieces.old.items at None ≡ Some found)) }
 {
     pad(pieces, place)?;

@@ -90,6 +90,7 @@ fn put_new(
         ≡ pieces.old.whole ++ row_in (format_in asked.now) (candidates_in asked.now) (row_seen row)) }
     ensures texts { OnOk result (pieces.new.texts
         ≡ pieces.old.texts ++ row_in (format_in asked.now) (candidates_in asked.now) (row_seen row) ∷ []) }
+    ensures kept { OnOk result (get_or own.new.items place None ≡ Some (length pieces.old.texts)) }
     ensures known { OnOk result ((at found : ℕ) → get_or own.new.items at None ≡ Some found →
         ((at ≡ place) × (length pieces.old.texts ≡ found)) ⊎ (get_or own.old.items at None ≡ Some found)) }
 {

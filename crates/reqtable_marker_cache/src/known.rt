@@ -3,7 +3,8 @@
 //! A line of a table has the number of its marker next to its tree, and what the marker says in an
 //! environment is kept under that number. Numbers only say where to look: an entry names its place in the
 //! interner, so no proof above depends on which marker has which number, and a marker that is not there is
-//! evaluated. The row of one package (`Table::row_among`) keeps nothing, since a package has few lines.
+//! evaluated. The row of one package (`reqtable_table::lent::row_among`) keeps nothing, since a package has
+//! few lines.
 
 ghost use Rattle.std.specs.Prelude.{◌≡◌, ◌<◌, ℕ, [], length, Some, None, get_or, set, IfOk};
 ghost use Rattle.version_ranges.specs.Turns.{flips};

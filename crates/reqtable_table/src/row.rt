@@ -1,7 +1,8 @@
 //! The row of a package of which a line applies.
 
 ghost use Rattle.std.specs.Prelude.{◌≡◌, ◌≤◌, ◌<◌, ◌+◌, ℕ, ◌++◌, ◌∷◌, []};
-ghost use Rattle.std.specs.Prelude.{length, map, get_or, option_map, None, All, IfOk, OnOk, IfSome};
+ghost use Rattle.std.specs.Prelude.{length, map, get_or, set, option_map, Some, None, All, IfOk, OnOk};
+ghost use Rattle.std.specs.Prelude.{IfSome};
 ghost use Rattle.std.specs.Option.{option_map_or};
 ghost use Rattle.std.specs.List.{AllZip, AllByRecursion};
 ghost use Rattle.std.specs.List.Sorted.{IsStrictlySortedBy};
@@ -264,6 +265,8 @@ fn decided<F: Fn(&Version, bool) -> bool>(
         AllByRecursion (λ c. c.0 < count) (map placed_seen own.now) → IsTakenBelow count outcome) }
     ensures same { SamePackage (package_record kept.new) (package_record kept.old) }
     ensures told { IsTold (F.post admission.now) (package_record kept.old) (own_record own.now told.new) }
+    ensures keeps { IfOk result (λ outcome.
+        told.new.outcomes.items ≡ set told.old.outcomes.items place (Some outcome)) }
     ensures tests { tests_of (map line_record kept.new.lines.items)
         ≤ tests_of (map line_record kept.old.lines.items)
         + most_tests (case_asks marks.now (map line_record kept.old.lines.items)) (map placed_seen own.now) }

@@ -1,4 +1,4 @@
-use Rattle.std.proofs.Common.{◌≡◌, ◌∙◌, ◌∷◌, ◌++◌, [], get_or, inl, inr, ap, sym}
+use Rattle.std.proofs.Common.{◌≡◌, ◌∙◌, ◌∷◌, ◌++◌, [], Some, get_or, inl, inr, ap, sym}
 use Rattle.std.proofs.lemmas.List.{get_or_at}
 use Rattle.std.proofs.lemmas.Result.{on_ok_weaker}
 use Rattle.reqtable_answer.specs.Rows.{row_seen}
@@ -26,10 +26,15 @@ returns-clause-texts c =
     (λ h. c.append.ensures.kept ∙ c.in_ok-piece.ensures.kept ∙ ap (λ t. before.texts ++ t ∷ []) c.in_ok-text.ensures)
     c.append.ensures.whole
 
+pub returns-clause-kept : goal.returns-clause-kept
+returns-clause-kept c =
+    on_ok_weaker c.append.result (λ h. c.in_ok-keep.ensures.kept ∙ ap (λ n. Some n) c.in_ok-piece.ensures.named)
+    c.append.ensures.whole
+
 pub returns-clause-known : goal.returns-clause-known
 returns-clause-known c =
     on_ok_weaker c.append.result
-    (λ h at found e. elim (c.in_ok-keep.ensures at found e) [
+    (λ h at found e. elim (c.in_ok-keep.ensures.known at found e) [
       | inl both ↦ inl (both.0, sym c.in_ok-piece.ensures.named ∙ both.1)
       | inr before ↦ inr before
     ])

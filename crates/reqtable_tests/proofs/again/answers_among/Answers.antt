@@ -8,8 +8,20 @@ use Rattle.reqtable_answer.specs.Answer.{IsAnswer}
 use Rattle.reqtable_answer.specs.Rows.{row_seen}
 use Rattle.reqtable_answer.specs.declared.answer.Answer.{Answer}
 use Rattle.reqtable_requirements.specs.Asks.{asks_of}
-use Rattle.reqtable_table.proofs.Packages.{zip_pushed}
 use Rattle.reqtable_tests.proofs.again.answers_among.Goals as goal
+
+-- pairs and one pair more
+push_zip : {A B : Type 0} (R : A → B → Type 0) (xs : List A) (ys : List B) (x : A) (y : B) →
+    AllZip R xs ys → R x y → AllZip R (xs ++ x ∷ []) (ys ++ y ∷ [])
+push_zip R [] [] x y h r = (r, tt)
+push_zip R [] (b ∷ ys) x y h r = absurd h
+push_zip R (a ∷ xs) [] x y h r = absurd h
+push_zip R (a ∷ xs) (b ∷ ys) x y h r = (h.0, push_zip R xs ys x y h.1 r)
+
+zip_pushed : {A B : Type 0} (R : A → B → Type 0) (xs more : List A) (ys longer : List B) (x : A) (y : B) →
+    more ≡ xs ++ x ∷ [] → longer ≡ ys ++ y ∷ [] → AllZip R xs ys → R x y → AllZip R more longer
+zip_pushed R xs more ys longer x y e f h r =
+    subst (λ l. AllZip R l longer) (sym e) (subst (λ l. AllZip R (xs ++ x ∷ []) l) (sym f) (push_zip R xs ys x y h r))
 
 pub loop-environment-init : goal.loop-environment-init
 loop-environment-init g c = record {
