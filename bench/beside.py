@@ -55,7 +55,7 @@ LONG, FEW = 15_000, 3
 SIZES, TIMES = (4_000, 16_000), 6
 # A shape's targets: how many times the native time, and the native peak, it may take.
 PLAIN, FULL, MANY, SINGLE, EVEN, OWN = (0.75, 0.8), (0.85, 0.8), (0.8, 0.8), (0.05, 1.0), (1.0, 1.0), (0.8, 1.0)
-# The same beside packaging, and of `matrix` beside as many `check`, by the number of environments.
+# Targets beside packaging, and of `matrix` beside as many `check`, by the number of environments.
 BESIDE_PACKAGING, MATRIX = (0.04, 0.2), {1: (1.3, 2.0), 1_000: (0.02, 2.0)}
 # The shapes that take so long natively that they are run once, and those whose instructions aren't counted.
 ONCE = {"one-line"}
@@ -157,7 +157,7 @@ def beside(name, heads, words, folder):
 
 
 def compared(name, heads, runs, inputs, target, words, folder):
-    """The same of two programs and their runs, on some inputs."""
+    """The row of two programs and their runs, on some inputs."""
     commands = [[*it, *inputs] for it in heads]
     walls, said = zip(*(least(command, folder, count) for command, count in zip(commands, runs)))
     cells = [pair(*walls, target[0], ",.1f")]
@@ -169,13 +169,13 @@ def compared(name, heads, runs, inputs, target, words, folder):
 
 
 def beside_packaging(name, heads, words, folder):
-    """The same beside packaging, which takes seconds."""
+    """The row of a shape beside packaging, which takes seconds."""
     inputs = write_inputs(folder, *SHAPES[OF_PACKAGING[name]][0]())
     return compared(name, [heads[0], PACKAGING], (words.runs, FEW), inputs, BESIDE_PACKAGING, words, folder)
 
 
 def of_matrix(name, _heads, words, folder):
-    """The same of `matrix` beside as many `check`."""
+    """The row of `matrix` beside as many `check`."""
     count = OF_MATRIX[name]
     workload = matrix.many_packages(count, SEED, False)
     found = matrix.Measured(workload, workload.write(folder), words)
@@ -188,7 +188,7 @@ def of_matrix(name, _heads, words, folder):
 
 
 def growing(name, heads, words, folder):
-    """The same of a shape of two sizes, which isn't measured natively."""
+    """The row of a shape of two sizes, which isn't measured natively."""
     walls = [least([*heads[0], *write_inputs(folder, *GROWING[name](it))], folder, words.runs)[0] for it in SIZES]
     ratio = walls[1] / walls[0]
     is_missed = ratio > TIMES

@@ -241,7 +241,7 @@ def judged(fault, is_planted, room):
 
 
 def judged_by_texts(faults):
-    """The same of faults that one part finds by reading texts: in one copy, into which each is planted and taken out again."""
+    """Why the gate isn't as it has to be at each fault that one part finds by reading texts: all are planted in one copy in turn."""
     with tempfile.TemporaryDirectory(prefix="reqs-faults-") as room:
         copy_of(None, room)
         if faults[0].words == SIZES:
@@ -256,7 +256,7 @@ def judged_by_texts(faults):
 
 
 def judged_by_proofs(faults):
-    """The same of faults by which something is proved: each in a copy of its own."""
+    """Why the gate isn't as it has to be at each fault by which something is proved: each is planted in a copy of its own."""
     for at, is_planted in [(0, False), *((at, True) for at in range(len(faults)))]:
         with tempfile.TemporaryDirectory(prefix="reqs-faults-") as room:
             copy_of(faults[at].crate, room)

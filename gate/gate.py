@@ -218,7 +218,7 @@ def verdict_of(line):
 
 
 def judged_apart(part, crates, store):
-    """The same, but what the part says is shown once it has ended."""
+    """What passed and failed of a part, and what it left out; what the part says is shown once it has ended."""
     said = []
     counts = judged(part, crates, store, said.append)
     print("".join(said), end="", flush=True)

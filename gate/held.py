@@ -26,7 +26,7 @@ HEAD = "Each definition, each part of a public contract and each claim of a docu
 # What `rattle fmt --tokens` says of a file, and of a word: where it begins and ends, and its kind.
 OF_FILE = re.compile(rb"^file \d+\n", re.M)
 OF_WORD = re.compile(rb"^\d+ (\d+) (\d+) (\w+)", re.M)
-# The same of the bracket that begins what a clause says.
+# What it says of the bracket that begins a clause.
 OF_CLAUSE = re.compile(rb'^.* Head "(?:requires|ensures)"\n(?:.* Head "[^{].*\n)*\d+ (\d+) \d+ Head "{"', re.M)
 QUOTED = (b"Literal", b"Text")
 

@@ -61,7 +61,7 @@ def tests_in(plain, bare):
 
 
 def rust_tests():
-    """The same of the Rust crate, and the names of its files with how many examples each has."""
+    """The tests of the Rust crate: name, file and line, and the text of the body."""
     for path, text in texts("rust/fowlyore/src/**/*.rs", "rust/fowlyore/tests/**/*.rs"):
         for name, line, body in tests_in(text, text):
             yield f"{path}: {name}", f"{path}:{line}", body

@@ -38,7 +38,7 @@ def of_edit(crates, edit):
 
 
 def of_part(words, rests_on):
-    """The same of a part of the gate that is run by these words and rests on these files and folders."""
+    """The sum of what the verdict on a part of the gate rests on that is run by these words and reads these files and folders."""
     scripts = reached(it for it in (*words, *rests_on) if not os.path.isabs(it) and os.path.isfile(os.path.join(TOP, it)))
     inside = [it for of in rests_on for it in glob.glob(os.path.join(TOP, of, "**", "*.[pr][ys]"), recursive=True)]
     looked_at = variables([*scripts, *(os.path.relpath(it, TOP) for it in inside)])

@@ -102,7 +102,7 @@ reqs_reply reqs_matrix(const uint8_t *requirements, size_t requirements_len,
                        uint64_t limit, size_t nodes, uint64_t cases, uint8_t *out, size_t out_len);
 
 /* REQS_ANSWERED and "yes\n" if two lists require the same; otherwise REQS_DIFFERENT and what `reqs same`
- * writes. */
+ * writes. Intervals decide plain versions alone (docs/COMMANDS.md). */
 reqs_reply reqs_same(const uint8_t *left, size_t left_len,
                      const uint8_t *right, size_t right_len,
                      uint64_t limit, size_t nodes, size_t clauses, uint64_t cases,

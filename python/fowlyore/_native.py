@@ -224,8 +224,8 @@ def _call(
 
 
 def _interruptible(call: Callable[..., bytes], long: int) -> Callable[..., bytes]:
-    """The same call, which on long texts is made in a thread of its own where this is the main thread. This one waits for it,
-    and meanwhile Python's handlers of signals run here: one that raises, as for Ctrl-C does `KeyboardInterrupt`, ends the
+    """A call that on long texts is made in a thread of its own where this is the main thread. This thread waits for it, and
+    meanwhile Python's handlers of signals run here: one that raises, as for Ctrl-C does `KeyboardInterrupt`, ends the
     waiting. The call then goes on until it returns, and its answer is dropped; it keeps no process from ending."""
 
     def called(*texts: bytes, **words: Any) -> bytes:

@@ -124,7 +124,7 @@ class _Asking(NamedTuple):
         return self.line.number
 
     def of(self, name: str) -> str:
-        """The same requirement on another package, as a line."""
+        """A line with this requirement on another package."""
         return f"{name}{self.rest}\n"
 
 

@@ -409,7 +409,7 @@ class Marker:
         return self._truth
 
     def _known_constant(self) -> bytes:
-        """The same, and `-` if it isn't found out within `bounds`."""
+        """`1` if the marker always holds, `0` if it never does, a third byte if neither, and `-` if `bounds` are passed."""
         try:
             return self._constant()
         except TooManyNodes:

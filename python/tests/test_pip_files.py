@@ -110,7 +110,7 @@ def told_by_pip(path):
 
 
 def told_by_listing(listing):
-    """The same of a listing: what it left out as a path is a requirement to pip's parser."""
+    """What a listing says; what it left out as a path is a requirement to pip's parser."""
     lines, editables = [], []
     for it in listing.lines:
         text = re.split(r"(?:^|\s)#", it.text, maxsplit=1)[0].strip() if listing.is_plain else it.text.strip()

@@ -48,7 +48,7 @@ def functions_of_header():
 
 
 def functions_of_crate():
-    """The same of what the crate declares."""
+    """The functions that the crate declares, by name."""
     block = re.search(r'^extern "C" \{(.*?)^\}', NATIVE, flags=re.S | re.M)[1]
     found = {}
     for name, words, result in re.findall(r"fn (\w+)\(([^)]*)\)\s*->\s*(\w+);", block):
@@ -64,7 +64,7 @@ def reply_of_header():
 
 
 def reply_of_crate():
-    """The same of the crate's type, which has to be laid out as C does it."""
+    """The fields of the crate's reply, which has to be laid out as C does it."""
     block = re.search(r"^#\[repr\(C\)\]\npub\(crate\) struct Reply \{(.*?)^\}", NATIVE, flags=re.S | re.M)
     return re.findall(r"(\w+): (\w+),", block[1]) if block else None
 

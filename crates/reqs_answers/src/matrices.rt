@@ -39,7 +39,7 @@ use std::io::{Read, Write};
 /// The size of the output buffer, in bytes.
 const WAITING_BYTES: usize = 65_536;
 
-/// What a run is asked beside its inputs and the interner.
+/// What a run is given besides its inputs and the interner.
 #[derive(Clone, Copy)]
 struct Request<'a> {
     extras: &'a [&'a str],

@@ -20,14 +20,14 @@ use std::alloc::{AllocError, Global};
 /// Why a marker has no normal text. This is decided by what its truth depends on, not by how it was written.
 #[derive(Clone, Copy, Debug, PartialEq, Eq)]
 pub enum TextFault {
-    /// It depends on a string with a single quote, which can't be written in single quotes.
+    /// The marker depends on a string with a single quote, which can't be written in single quotes.
     SingleQuote,
-    /// It depends on a key with a deprecated name, as `os.name`, which prints under its new name.
+    /// The marker depends on a key with a deprecated name, as `os.name`, which prints under its new name.
     DeprecatedKey,
-    /// It depends on a version that is more than release numbers of epoch 0, which can't be printed in a
-    /// marker.
+    /// The marker depends on a version that is more than release numbers of epoch 0, which can't be printed
+    /// in a marker.
     VersionBound,
-    /// It never holds, which has no text without a comparison of some arbitrary key.
+    /// The marker never holds, which has no text without a comparison of some arbitrary key.
     NeverHolds,
 }
 

@@ -47,7 +47,8 @@ const EVERYWHERE: &str = "all environments";
 /// environment with any extras, as decided by `reqtable_compare::same`. Otherwise it writes three lines:
 /// `no`, the first package that differs, and the marker of its first difference, or `all environments` if
 /// that always holds; and ends with `Status::Different`. That marker may hold for no real interpreter. In the
-/// other format it writes one object (`docs/COMMANDS.md`).
+/// other format it writes one object (`docs/COMMANDS.md`). Intervals decide plain versions alone, so lists
+/// that require the same can still select different builds.
 ///
 /// Both lists are read whole, and then parsed, the left one first. The whole text is made before the first
 /// write.

@@ -46,6 +46,10 @@ fn has_prerelease(ask: &Ask<'_>) -> bool
 }
 
 /// Whether all requirements accept the version, and it is admitted.
+///
+/// # Errors
+///
+/// `AllocError` when memory runs out.
 pub fn may_be_taken<F: Fn(&Version, bool) -> bool>(
     alloc: Global,
     asks: &[Ask<'_>],

@@ -30,6 +30,10 @@ pub struct Numbered<'a> {
 }
 
 /// What is selected for a package, by the requirements on it and from its candidates.
+///
+/// # Errors
+///
+/// `AllocError` when memory runs out.
 pub fn outcome<F: Fn(&Version, bool) -> bool>(
     alloc: Global,
     asks: &[Ask<'_>],

@@ -26,6 +26,10 @@ pub struct Group<'a> {
 pub type Groups<'a> = BTreeMap<&'a str, Group<'a>>;
 
 /// The required packages, each with the requirements on it and its candidates, both in their order.
+///
+/// # Errors
+///
+/// `AllocError` when memory runs out.
 pub fn by_package<'a>(
     alloc: Global,
     asks: &[Ask<'a>],

@@ -55,7 +55,7 @@ fn names_of<'a>(
     package_names(alloc, &[left, right])
 }
 
-/// Those of some names whose lines aren't equal in both lists, or are too many.
+/// The names, of those given, of packages whose lines aren't equal in both lists, or are too many.
 fn open_among<'a>(
     alloc: Global,
     names: &[&'a PackageName],

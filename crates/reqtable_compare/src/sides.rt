@@ -68,10 +68,10 @@ impl fmt::Display for LineCause {
 /// Whether two lists require the same, or what another relation has, and if not, where they don't.
 #[derive(Debug, Drop)]
 pub enum Same {
-    /// They require the same in every environment, with any extras.
+    /// Both lists require the same in every environment, with any extras.
     Yes,
-    /// They require different things of this package, the first by the bytes of its name, wherever the tree
-    /// holds.
+    /// The lists require different things of this package, the first by the bytes of its name, wherever the
+    /// tree holds.
     No {
         package: PackageName,
         tree: MarkerTree,

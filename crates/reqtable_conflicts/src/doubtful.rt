@@ -41,7 +41,7 @@ pub(crate) fn doubtful_packages<'a>(
     doubtful_among(alloc, &names, &groups, limit)
 }
 
-/// Those of some names whose lines aren't known to agree.
+/// The names, of those given, of packages whose lines aren't known to agree.
 fn doubtful_among<'a>(
     alloc: Global,
     names: &[&'a PackageName],

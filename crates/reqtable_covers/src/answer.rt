@@ -6,10 +6,10 @@ use pep508_tree::MarkerTree;
 /// Whether a list covers another, and if not, where it doesn't.
 #[derive(Debug, Drop)]
 pub enum Covers {
-    /// It requires whatever the other one does, in every environment, with any extras.
+    /// The list requires whatever the other one does, in every environment, with any extras.
     Yes,
-    /// It doesn't for this package, the first by the bytes of its name, wherever the tree holds. There
-    /// exactly these lines of the other list apply to the package, by their numbers.
+    /// The list doesn't cover this package, the first by the bytes of its name, wherever the tree holds.
+    /// There exactly these lines of the other list apply to the package, by their numbers.
     No {
         package: PackageName,
         tree: MarkerTree,

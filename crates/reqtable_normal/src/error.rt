@@ -12,12 +12,13 @@ use std::fmt;
 pub enum NormalCause {
     /// The line requires a URL.
     Url,
-    /// A string in its marker has a single quote, so it can't be written in single quotes.
+    /// A string in the line's marker has a single quote, so it can't be written in single quotes.
     SingleQuote,
-    /// Its marker depends on a key with a deprecated name, as `os.name`, which prints under its new name.
+    /// The line's marker depends on a key with a deprecated name, as `os.name`, which prints under its new
+    /// name.
     DeprecatedKey,
-    /// Its marker depends on a version that is more than release numbers of epoch 0, which can't be printed
-    /// in a marker.
+    /// The line's marker depends on a version that is more than release numbers of epoch 0, which can't be
+    /// printed in a marker.
     Bound,
 }
 

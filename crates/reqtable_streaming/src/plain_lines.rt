@@ -32,7 +32,7 @@ pub(crate) struct PlainLine<'a> {
 }
 
 /// Writes the normal form of a line's name to the front of `normal`, and returns what the line says, if a
-/// space is behind the name, and the text of the version is of printed ASCII characters without `#`. The line
+/// space follows the name, and the text of the version is of printed ASCII characters without `#`. The line
 /// has no end. `None` also where `normal` has too little room for the name.
 pub(crate) fn plain_line<'a>(line: &'a str, normal: &mut [u8]) -> Option<PlainLine<'a>>
     ensures parts { IfSome result (λ read. (name : List ℕ) × ArePlainParts line.now name read.version.now

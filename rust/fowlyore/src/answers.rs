@@ -83,9 +83,9 @@ pub struct Conflict {
 /// ```
 #[derive(Clone, Debug, PartialEq, Eq, Hash)]
 pub enum Same {
-    /// They require the same of every package, whatever the truth of their markers is.
+    /// Both lists require the same of every package, whatever the truth of their markers is.
     Yes,
-    /// They require different things.
+    /// The lists require different things.
     No {
         /// The first package by name that differs.
         package: String,
@@ -109,7 +109,7 @@ pub enum Same {
 pub enum Covers {
     /// The lock requires whatever the requirements do, whatever the truth of their markers is.
     Yes,
-    /// It doesn't.
+    /// The lock doesn't cover the requirements.
     No {
         /// The first package by name that isn't covered.
         package: String,
