@@ -29,10 +29,13 @@ import keys
 import linked
 import seen
 import toolchain
-from prover import LIBRARY, MARK, PROGRAM, SECONDS, STATIC, TESTS, Prover, read
+from prover import LIBRARY, MARK, PROGRAM, SECONDS, SECONDS_A_LINE, STATIC, TESTS, Prover, read, write
 from store import Store
 
 WORK = "work"
+# The kind of a library that no crate uses: it is checked and not written, which takes six times as long where it passes on what
+# is below it. The file in out/ by which it is known for proved.
+UNUSED = "unused"
 # The scripts that say so of a library by what its check sees.
 OF_SEEN = (*keys.OF_KEPT, "gate/clauses.py", "gate/seen.py", "gate/statements.py")
 # The forms of what is proved, by a run from nothing and by one of every day, and which those of the libraries below may have.
@@ -43,7 +46,7 @@ TRUSTED = re.compile(r" incremental=trusted\n\Z")
 CHECKED = re.compile(r"^crate (\w+): modules loaded=\d+ checked=(\d+)$", re.M)
 # What a line takes by one job where kept work is there, what a line of the crates below takes, whose libraries are loaded
 # whole, and what loading takes of the memory of a check that proves.
-SECONDS_A_LINE, SECONDS_A_LINE_BELOW, LOADED = 0.03, 0.0015, 0.75
+SECONDS_A_LINE_KEPT, SECONDS_A_LINE_BELOW, LOADED = 0.03, 0.0015, 0.75
 
 
 class Verdict:
@@ -69,8 +72,18 @@ class KeptProver(Prover):
         super().__init__(rt, store)
         rt.rtlib.VERDICT = Verdict(rt.rtlib.VERDICT)
         self.forms, self.through = {}, []
+        # (whoever asks for libraries gets each)
+        self.writes_all = True
         # (what is proved above doesn't wait until kept work is packed)
         self.pool, self.packed = ThreadPoolExecutor(1), {}
+
+    def kind(self, name, tests=False):
+        kind = super().kind(name, tests)
+        is_used = self.writes_all or any(name in it.uses for it in self.crates.values())
+        return kind if is_used or kind != LIBRARY else UNUSED
+
+    def parts(self, name, tests=False):
+        return [UNUSED] if self.kind(name, tests) == UNUSED else super().parts(name, tests)
 
     def form(self, name, tests=False):
         """In which form a crate or its tests are taken, or else proved."""
@@ -100,7 +113,7 @@ class KeptProver(Prover):
         kind = self.kind(name, tests)
         if form == NOTHING:
             return super().entry(name, tests)
-        if kind == LIBRARY:
+        if kind in (LIBRARY, UNUSED):
             return f"{keys.summed((seen.by(self.crates, name), keys.scripts_sum(OF_SEEN)))}.{kind}.whole"
         return f"{keys.of_everyday_proof(self.crates, name)}.{kind}.whole"
 
@@ -123,7 +136,7 @@ class KeptProver(Prover):
 
     def in_lanes(self, tasks):
         """Does as a run from nothing does, where tests wait for the library that they begin with."""
-        made = {}
+        made, self.writes_all = {}, any(isinstance(key, str) for key in tasks)
         for key, (waits, *rest) in tasks.items():
             waits_more = not isinstance(key, str) and self.begins_with_library(key[0], key[1] == TESTS)
             made[key] = [*waits, (key[0], "proof")] if waits_more else waits, *rest
@@ -134,8 +147,9 @@ class KeptProver(Prover):
 
     def seconds(self, name, tests, lines):
         if self.only_loads(name, tests):
-            return SECONDS + self.loading(name) + SECONDS_A_LINE * lines
-        return self.loading(name) + super().seconds(name, tests, lines)
+            return SECONDS + self.loading(name) + SECONDS_A_LINE_KEPT * lines
+        kind = self.kind(name, tests)
+        return SECONDS + self.loading(name) + SECONDS_A_LINE[LIBRARY if kind == UNUSED else kind] * lines
 
     def memory(self, name, tests, reckoned):
         # (a program is built by two compilers at a time)
@@ -152,7 +166,7 @@ class KeptProver(Prover):
             print(f"gate: {crate.name} can't be proved as {form} over the libraries that are there", file=crate.out)
             return 1
         if form != WHOLE:
-            return super().prove(crate, flags, tests)
+            return self.check(crate, flags) if self.kind(crate.name, tests) == UNUSED else super().prove(crate, flags, tests)
         entry = self.work_entry(crate.name, tests)
         room = tempfile.mkdtemp(prefix="reqs-kept-")
         work = os.path.join(room, WORK)
@@ -165,6 +179,13 @@ class KeptProver(Prover):
             self.through.append(f"{crate.name} ({anew} modules anew)")
         is_new = status == 0 and (anew or not is_there)
         self.packed[crate.name, tests] = self.pool.submit(self.pack, entry if is_new else None, room)
+        return status
+
+    def check(self, crate, flags, *words):
+        """Checks a crate, leaves a mark in out/ that it is proved, and gives a status."""
+        status = crate.prove(["check", *crate.words(flags, keeps=False), *words])
+        if status == 0:
+            write(os.path.join(crate.folder, "out", UNUSED), "")
         return status
 
     def take_of_library(self, name, room):
@@ -194,6 +215,8 @@ class KeptProver(Prover):
 
     def build(self, crate, flags, tests, work):
         kind = self.kind(crate.name, tests)
+        if kind == UNUSED:
+            return self.check(crate, flags, "--incremental", work)
         words = [*crate.words(flags, tests=tests, keeps=False), "--incremental", work]
         if kind != LIBRARY:
             return linked.build(crate, kind, words, work)
