@@ -44,6 +44,8 @@ FITS = {NOTHING: {NOTHING}, WHOLE: {NOTHING, WHOLE}}
 # The word of a verdict that rests on kept work. All other words are held to `rt`'s rules as they are.
 TRUSTED = re.compile(r" incremental=trusted\n\Z")
 CHECKED = re.compile(r"^crate (\w+): modules loaded=\d+ checked=(\d+)$", re.M)
+# What of the memory that is reckoned a check over statements takes, as measured.
+OVER_STATEMENTS = 0.6
 # What a line takes by one job where kept work is there, what a line of the crates below takes, whose libraries are loaded
 # whole, and what loading takes of the memory of a check that proves.
 SECONDS_A_LINE_KEPT, SECONDS_A_LINE_BELOW, LOADED = 0.03, 0.0015, 0.75
@@ -154,7 +156,18 @@ class KeptProver(Prover):
     def memory(self, name, tests, reckoned):
         # (a program is built by two compilers at a time)
         builds = 2 if self.kind(name, tests) == PROGRAM else 1
-        return builds * LOADED * reckoned if self.only_loads(name, tests) else reckoned
+        if self.only_loads(name, tests):
+            return builds * LOADED * reckoned
+        is_less = self.form(name, tests) == NOTHING and self.kind(name, tests) in (LIBRARY, UNUSED)
+        return OVER_STATEMENTS * reckoned if is_less else reckoned
+
+    def run(self, tasks):
+        """Does as a run from nothing does, where checks of edits over statements take less memory."""
+        for key, task in tasks.items():
+            is_of_edits = len(key) == 3 and key[1] == "edits"
+            if is_of_edits and all(self.form(it) == NOTHING for it in self.crates[key[0]].uses):
+                task.memory *= OVER_STATEMENTS
+        return super().run(tasks)
 
     def most_jobs(self, name, tests):
         # (loading is done by one)
