@@ -126,7 +126,7 @@ class Source:
             if not head:
                 raise ValueError(f"{self.path}:{self.line(at)}: this item is of no kind that is known")
             after = self.end_of_item(head, end)
-            if not any(re.search(r"\btest\b", it) for it in attributes):
+            if self.holds_callers or not any(re.search(r"\btest\b", it) for it in attributes):
                 yield head, attributes, after
             at = after
 
@@ -148,9 +148,10 @@ class Source:
         """The match of what makes the bracket at a place a clause's, or None."""
         return CLAUSE.search(self.bare, max(0, at - 120), at)
 
-    def is_caller(self, head, after):
-        """Whether a function says what it ensures."""
-        clauses = [self.clause_at(it.start()) for it in BRACKET.finditer(self.bare, head.end(), after) if it[0] == "{"]
+    def is_held_caller(self, head, after):
+        """Whether this is an item of a crate of tests, and a function that says what it ensures."""
+        brackets = BRACKET.finditer(self.bare, head.end(), after) if self.holds_callers and head["kind"] == "fn" else ()
+        clauses = [self.clause_at(it.start()) for it in brackets if it[0] == "{"]
         return any(it and it["kind"] == "ensures" for it in clauses)
 
     def line(self, at):
@@ -189,7 +190,7 @@ class Source:
                 self.read_impl(head, after, scope, front)
             elif head["kind"] == "use":
                 self.read_use(head, after, front, is_public)
-            elif head["kind"] == "fn" and (is_public or self.holds_callers and self.is_caller(head, after)):
+            elif head["kind"] == "fn" and (is_public or self.is_held_caller(head, after)):
                 self.read_function(head, after, scope, name)
             elif head["kind"] in TYPES and (is_public or self.types.is_declared(head["name"])):
                 self.read_type(head, attributes, after, scope, name)
@@ -249,20 +250,22 @@ class Source:
         begin = self.bare.index("{", head.start())
         of, to = impl_parts(self.bare[head.end("kind") : begin])
         is_public = self.types.is_public(type_name(to)) and self.types.is_public(type_name(of or to))
-        if of and of != "Model" and not is_public:
+        is_whole = of and (of == "Model" or is_public)
+        if of and not is_whole and not self.holds_callers:
             return
         name, text = front + type_name(to), self.plain[head.start() : begin]
         if of:
             name = f"{name}:{label(of)}"
+        if is_whole:
             self.hold_code(name, head.start(), text, scope)
-        self.read_members(begin + 1, after - 1, scope, name, None if of else [code_line(text)], not of)
+        self.read_members(begin + 1, after - 1, scope, name, None if is_whole else [code_line(text)], not is_whole)
 
     def read_members(self, at, end, scope, owner, before=(), is_own=False):
         """Holds the members of a trait or an impl: of a type's own impl the public ones alone."""
         scope = Scope(scope)
         self.imports(at, end, scope)
         for head, _, after in self.items(at, end):
-            is_shown = not is_own or head["shown"] and not head["within"]
+            is_shown = not is_own or head["shown"] and not head["within"] or self.is_held_caller(head, after)
             if head["ghost"] and head["kind"] != "use":
                 self.hold_clause(f"{owner}.{head['kind']}", head.start(), self.plain[head.start() : after], scope)
             elif head["kind"] == "fn" and is_shown:

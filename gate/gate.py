@@ -143,7 +143,8 @@ def parts(more):
         Part("library for C", ["bash", "tests/c.sh"], ["reqs_c"], [*of_c, "examples", *(f"tests/{it}" for it in OF_C)]),
         Part("Python package", ["bash", "tests/python.sh"], ["reqs_c"], of_python, fills=True, counts=("Python package",)),
         # (that answers are right the parts above say of each program)
-        Part("older Pythons", ["bash", "tests/python.sh", "--older"], [], of_python, ["reqs_c"], sees=("reqs_c",), fills=True),
+        Part("older Pythons", ["bash", "tests/python.sh", "--older"], [], of_python, ["reqs_c"], sees=("reqs_c",), fills=True,
+             counts=("Python package",)),
         Part("lists in pieces", [*python, "tests/index.py"], ["reqs_c", "reqs_cli"], of_index),
         Part("Debian package", ["bash", "tests/deb.sh"], ["reqs_c", "reqs_cli"], of_deb),
         Part("release", ["bash", "tests/release.sh"], [], of_release, ["reqs_c", "reqs_cli"], sees=("reqs_c", "reqs_cli")),

@@ -16,7 +16,8 @@ None is made before those below are there, and what lay in out/ is removed first
 only where all below it are, since its libraries hold statements alone, which fit just those over which they were made.
 
 A crate of which the store never had a proof is proved as a run from nothing does: a check near the top takes some seconds to
-load statements, and minutes to load whole libraries. So an empty store is filled in a third less time.
+load statements, and minutes to load whole libraries. So an empty store is filled in a third less time. It goes under a name of its
+own, since this script judges it, on which no entry of a run from nothing rests.
 """
 
 import os
@@ -38,9 +39,10 @@ WORK = "work"
 UNUSED = "unused"
 # The scripts that say so of a library by what its check sees.
 OF_SEEN = (*keys.OF_KEPT, "gate/clauses.py", "gate/seen.py", "gate/statements.py")
-# The forms of what is proved, by a run from nothing and by one of every day, and which those of the libraries below may have.
-NOTHING, WHOLE = "nothing", "whole"
-FITS = {NOTHING: {NOTHING}, WHOLE: {NOTHING, WHOLE}}
+# The forms of what is proved, by a run from nothing, and by one of every day at first and then, and which those of the libraries
+# below may have.
+NOTHING, FIRST, WHOLE = "nothing", "first", "whole"
+FITS = {NOTHING: {NOTHING}, FIRST: {NOTHING, FIRST}, WHOLE: {NOTHING, FIRST, WHOLE}}
 # The word of a verdict that rests on kept work. All other words are held to `rt`'s rules as they are.
 TRUSTED = re.compile(r" incremental=trusted\n\Z")
 CHECKED = re.compile(r"^crate (\w+): modules loaded=\d+ checked=(\d+)$", re.M)
@@ -64,16 +66,26 @@ class Verdict:
 def prover_of(is_from_nothing):
     """The way to prove of a run from nothing, which takes nothing from the store, or of an everyday run."""
     rt = toolchain.load()
-    return Prover(rt, Store(reads=False)) if is_from_nothing else KeptProver(rt, Store())
+    return Unmarking(rt, Store(reads=False)) if is_from_nothing else KeptProver(rt, Store())
 
 
-class KeptProver(Prover):
+class Unmarking(Prover):
+    """Proves so that what an earlier run built in the tree is known no more once something else may stand there."""
+
+    def take_or_prove(self, crate, flags, tests):
+        if self.kind(crate.name, tests) in (PROGRAM, STATIC):
+            # (it isn't removed, since a run of all crates gives back what isn't there)
+            write(os.path.join(crate.folder, "out", MARK), "")
+        return super().take_or_prove(crate, flags, tests)
+
+
+class KeptProver(Unmarking):
     """Proves crates through kept work where the store has none of them."""
 
     def __init__(self, rt, store):
         super().__init__(rt, store)
         rt.rtlib.VERDICT = Verdict(rt.rtlib.VERDICT)
-        self.forms, self.through = {}, []
+        self.forms, self.through, self.written = {}, [], {}
         # (whoever asks for libraries gets each)
         self.writes_all = True
         # (what is proved above doesn't wait until kept work is packed)
@@ -81,8 +93,17 @@ class KeptProver(Prover):
 
     def kind(self, name, tests=False):
         kind = super().kind(name, tests)
-        is_used = self.writes_all or any(name in it.uses for it in self.crates.values())
-        return kind if is_used or kind != LIBRARY else UNUSED
+        if kind != LIBRARY or self.writes_all or any(name in it.uses for it in self.crates.values()):
+            return kind
+        return LIBRARY if self.is_written(name) else UNUSED
+
+    def is_written(self, name):
+        """Whether the store has a library of a run from nothing, which writes each, over those that are there."""
+        if name not in self.written:
+            fits = {self.form(it) for it in self.crates[name].uses} <= FITS[NOTHING]
+            entry, parts = f"{keys.of_proof(self.crates, name)}.{LIBRARY}", [f"rlib/{name}.rlib"]
+            self.written[name] = fits and self.store.has(entry, parts)
+        return self.written[name]
 
     def parts(self, name, tests=False):
         return [UNUSED] if self.kind(name, tests) == UNUSED else super().parts(name, tests)
@@ -104,17 +125,22 @@ class KeptProver(Prover):
         return next((it for it in FITS if is_there and self.entry_in(it, name, tests) == mark), None)
 
     def form_by_store(self, name, tests):
-        """The form of a run from nothing where all below have it, and the store has that, or had no proof of the crate yet: a first
-        proof costs least so. What changes after it will change again, and is proved whole."""
-        if not {self.form(it) for it in self.crates[name].uses} <= FITS[NOTHING]:
-            return WHOLE
-        is_there = self.store.has(self.entry_in(NOTHING, name, tests), self.parts(name, tests))
-        return NOTHING if is_there or not self.store.verdict(self.mark(name, tests)) else WHOLE
+        """The form of a run from nothing, or of a first proof, where those below fit, and the store has that; or that of a first proof
+        where it had no proof of the crate yet, which costs least so. What changes after it will change again, and is proved whole;
+        so are tests beside a library that is, which begin with that."""
+        below = {self.form(it) for it in self.crates[name].uses}
+        for it in (NOTHING, FIRST):
+            if below <= FITS[it] and self.store.has(self.entry_in(it, name, tests), self.parts(name, tests)):
+                return it
+        is_known = self.store.verdict(self.mark(name, tests)) or self.begins_with_library(name, tests) and self.form(name) == WHOLE
+        return FIRST if below <= FITS[FIRST] and not is_known else WHOLE
 
     def entry_in(self, form, name, tests):
         kind = self.kind(name, tests)
         if form == NOTHING:
             return super().entry(name, tests)
+        if form == FIRST:
+            return f"{keys.summed((keys.of_proof(self.crates, name), keys.scripts_sum(keys.OF_KEPT)))}.{kind}.first"
         if kind in (LIBRARY, UNUSED):
             return f"{keys.summed((seen.by(self.crates, name), keys.scripts_sum(OF_SEEN)))}.{kind}.whole"
         return f"{keys.of_everyday_proof(self.crates, name)}.{kind}.whole"
@@ -134,7 +160,7 @@ class KeptProver(Prover):
     def only_loads(self, name, tests):
         """Whether a check does little but load."""
         is_made = self.begins_with_library(name, tests) and self.form(name) == WHOLE
-        return is_made or self.store.has(self.work_entry(name, tests), ())
+        return self.form(name, tests) == WHOLE and (is_made or self.store.has(self.work_entry(name, tests), ()))
 
     def in_lanes(self, tasks):
         """Does as a run from nothing does, where tests wait for the library that they begin with."""
@@ -158,14 +184,14 @@ class KeptProver(Prover):
         builds = 2 if self.kind(name, tests) == PROGRAM else 1
         if self.only_loads(name, tests):
             return builds * LOADED * reckoned
-        is_less = self.form(name, tests) == NOTHING and self.kind(name, tests) in (LIBRARY, UNUSED)
+        is_less = self.form(name, tests) != WHOLE and self.kind(name, tests) in (LIBRARY, UNUSED)
         return OVER_STATEMENTS * reckoned if is_less else reckoned
 
     def run(self, tasks):
         """Does as a run from nothing does, where checks of edits over statements take less memory."""
         for key, task in tasks.items():
             is_of_edits = len(key) == 3 and key[1] == "edits"
-            if is_of_edits and all(self.form(it) == NOTHING for it in self.crates[key[0]].uses):
+            if is_of_edits and all(self.form(it) != WHOLE for it in self.crates[key[0]].uses):
                 task.memory *= OVER_STATEMENTS
         return super().run(tasks)
 

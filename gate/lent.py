@@ -7,7 +7,8 @@
 crate does. A call that isn't counted is public only since other crates of trees need it. Who makes a table of
 requirements gives them away, so that its answers come from the table; a copy of requirements, or a table of some
 that are lent, is for the calls on whole lists. LENT has such calls, and modules of them, each with the crate that has it and those that
-may name it; nobody may pass one on by `pub use`, and no other crate's source may name it. Fails too where one of
+may name it; nobody may pass one on by `pub use`, and no other crate's source may name it. Nor may another import all of a crate that
+lends, or the crate itself, under its own or another name: its calls could be named there unseen. Fails too where one of
 those crates has no use for it. Comments, texts and clauses don't count. The last line is `N passed, M failed`, a crate
 each.
 """
@@ -18,6 +19,7 @@ import re
 import sys
 
 from asked import code
+from clauses import rust_imports
 from crates import Crates
 
 BORROWERS = ("pep508_conjunctions", "pep508_cases", "pep508_requirement", "pep508_simplification")
@@ -34,7 +36,7 @@ LENT = {
     "row_among": ("reqtable_table", ("reqs_rows",)),
     "reqtable_table::lent": ("reqtable_table", ("reqs_answers", "reqs_rows", "reqtable_tests")),
 }
-PASSED_ON = re.compile(r"\bpub use ([^;]+);")
+USE = re.compile(r"\b(?P<shown>pub )?use (?P<tree>[^;]+);")
 
 
 @functools.lru_cache(maxsize=None)
@@ -46,6 +48,21 @@ def sources(crate):
             with open(path, encoding="utf-8") as file:
                 found[os.path.relpath(path, crate.folder)] = code(file.read())
     return found
+
+
+@functools.lru_cache(maxsize=None)
+def imports(crate):
+    """What a crate's sources import: the file, whether it is passed on, the name and the path."""
+    found = []
+    for path, text in sources(crate).items():
+        for use in USE.finditer(text):
+            found += [(path, bool(use["shown"]), name, of.removeprefix("::")) for name, of in rust_imports(use["tree"])]
+    return found
+
+
+def is_whole(path, owner):
+    """Whether an import's path is that of a crate, or of all that stands there or in a module of it."""
+    return path.removesuffix("::self") == owner or path.startswith(f"{owner}::") and path.endswith("::*")
 
 
 def named(name, is_owner):
@@ -61,9 +78,13 @@ def fault(crate, name, owner, borrowers):
     texts = sources(crate)
     word = re.compile(named(name, crate.name == owner))
     naming = [path for path, text in texts.items() if word.search(text)]
-    passing = [path for path, text in texts.items() for it in PASSED_ON.findall(text) if word.search(it)]
     if crate.name == owner:
         return None if naming else f"has no {name}"
+    whole = [path for path, _, _, of in imports(crate) if is_whole(of, owner)]
+    if whole:
+        return f"imports all of {owner}, and so {name}, in {whole[0]}"
+    known = {it for _, _, it, of in imports(crate) if word.search(of)}
+    passing = [path for path, is_shown, _, of in imports(crate) if is_shown and (word.search(of) or known & {*of.split("::")})]
     if passing:
         return f"passes on {name} in {passing[0]}"
     if crate.name in borrowers:

@@ -1,6 +1,7 @@
 """Faults of the store and of what is taken from it: each is made in a store of its own, and the gate has to see it."""
 
 import collections
+import copy
 import os
 import pathlib
 import re
@@ -12,6 +13,7 @@ import gate
 import kept
 from crates import TOP
 from faults import FAILING, FAILING_TEST, FAULTS, LAST_USE, PROVE, Fault, copy_of, ran
+from prover import MARK, read, write
 from store import Store
 
 # Scripts that take a crate's tests for proved, and keep that.
@@ -34,6 +36,18 @@ sys.path.insert(0, "gate")
 import seen
 from crates import Crates
 print(seen.by(Crates(), "high"))
+"""
+# Keeps libraries as a run from nothing does, and prints whether an everyday run of all crates takes that of `high`, which none uses.
+WRITTEN = """import os, sys, tempfile
+sys.path.insert(0, "gate")
+import kept
+everyday, from_nothing = kept.prover_of(False), kept.prover_of(True)
+everyday.writes_all = False
+with tempfile.TemporaryDirectory() as room:
+    for name in everyday.crates:
+        os.makedirs(os.path.join(room, "rlib", f"{name}.rlib"))
+        from_nothing.store.keep(from_nothing.entry(name), room, ["rlib"])
+print(everyday.store.has(everyday.entry("high"), everyday.parts("high")))
 """
 # Prints the sum of what the verdicts on an edit of `low` rest on.
 AROUND = """import sys
@@ -103,6 +117,46 @@ def taken_over():
         if status == 0 or FAILING not in said:
             return f"an entry without its program was taken: status {status}: {said[-300:]}"
     return None
+
+
+def what_entries_rest_on():
+    """Why what an everyday run proves goes under the same name when a script that judges it is another, or None."""
+    with tempfile.TemporaryDirectory() as folder, tempfile.TemporaryDirectory(prefix="reqs-faults-") as room:
+        copy_of("underline", room)
+        _, name = ran(["-c", ENTRY], room, folder)
+        for script in ("gate/kept.py", "gate/prover.py"):
+            with open(os.path.join(room, script), "a", encoding="utf-8") as file:
+                file.write("\nOTHER = 0\n")
+            _, other = ran(["-c", ENTRY], room, folder)
+            if not name.endswith(".first\n") or name == other:
+                return f"{script}: {name}"
+            shutil.copy2(os.path.join(TOP, script), os.path.join(room, script))
+    return None
+
+
+def built_before():
+    """Why a program of other texts is still known by its mark once another one is being laid out or built, or None."""
+    for is_from_nothing in (False, True):
+        with tempfile.TemporaryDirectory() as folder, tempfile.TemporaryDirectory() as room:
+            prover = kept.prover_of(is_from_nothing)
+            crate, prover.store = copy.copy(prover.crates["reqs_cli"]), Store(folder)
+            crate.folder = room
+            os.makedirs(os.path.join(room, "out"))
+            write(os.path.join(room, "out", MARK), "the entry of other texts")
+            with unittest.mock.patch.object(prover.store, "take", side_effect=InterruptedError):
+                try:
+                    prover.take_or_prove(crate, [], False)
+                except InterruptedError:
+                    pass
+            if read(os.path.join(room, "out", MARK)) != "":
+                return "its mark is there"
+    return None
+
+
+def written():
+    """Why an everyday run proves what a run from nothing proved and wrote, a library that no crate uses, or None."""
+    with tempfile.TemporaryDirectory() as folder, tempfile.TemporaryDirectory(prefix="reqs-faults-") as room:
+        return None if TwoCrates(room, folder).seen(WRITTEN) == "True\n" else "it is proved once more"
 
 
 def cut_short():
@@ -277,9 +331,9 @@ def what_an_edit_rests_on():
 
 def tries_less():
     """Why a part passes whose script ends early, or None."""
-    early = ["bash", "-c", "echo 1 passed, 0 failed"]
-    for part in (gate.Part("command line", [*early, "tests/cli.sh"], counts=("runs",)), gate.Part("lists compared", early)):
-        if not gate.judged(part, None, None, lambda _: None)[1]:
+    for part in gate.parts([])[2]:
+        early = gate.Part(part.name, ["bash", "-c", "echo 1 passed, 0 failed", part.words[-1]], counts=part.counts)
+        if not gate.judged(early, None, None, lambda _: None)[1]:
             return f"{part.name}: it passed"
     return None
 
@@ -290,6 +344,9 @@ def told():
     yield Tried("a store that is full", full())
     yield Tried("a failing test that the store knows otherwise", taken_over())
     yield Tried("a part whose script ends early", tries_less())
+    yield Tried("what the name of an everyday proof rests on", what_entries_rest_on())
+    yield Tried("a program of other texts", built_before())
+    yield Tried("a library that a run from nothing wrote, and none uses", written())
     yield Tried("what a check sees of the crates below", what_a_check_sees())
     yield Tried("what the verdict on an edit rests on", what_an_edit_rests_on())
     yield from through_kept_work()
