@@ -75,6 +75,7 @@ class Unmarking(Prover):
     def take_or_prove(self, crate, flags, tests):
         if self.kind(crate.name, tests) in (PROGRAM, STATIC):
             # (it isn't removed, since a run of all crates gives back what isn't there)
+            os.makedirs(os.path.join(crate.folder, "out"), exist_ok=True)
             write(os.path.join(crate.folder, "out", MARK), "")
         return super().take_or_prove(crate, flags, tests)
 
