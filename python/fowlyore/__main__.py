@@ -17,7 +17,7 @@ from typing import Any, BinaryIO, Callable, Dict, Iterable, Iterator, List, Name
 
 from . import __version__, tables
 from .distributions import installed
-from .errors import columns
+from .errors import columns, shown
 from .explanations import Explanation, check_explained
 from .files import has_groups, read, read_text, refuse_groups
 from .listings import LeftOut, Listing
@@ -37,8 +37,6 @@ ANSWERED, DIFFERENT, REFUSED, NOT_READ, STRICT = range(5)
 Source = Union[Path, bytes]
 # What a standard stream is called.
 OUTPUT = "standard output"
-# Control characters but line feeds, and what changes the direction of text (UAX #9).
-HIDDEN = re.compile("[\x00-\x09\x0b-\x1f\x7f-\x9f\u061c\u200e\u200f\u202a-\u202e\u2066-\u2069]")
 # The words that name an input.
 INPUTS = ("requirements", "environment", "environments", "candidates", "left", "right", "lock")
 
@@ -133,11 +131,6 @@ def flush_output() -> None:
             sys.stdout.flush()
 
 
-def shown(text: str) -> str:
-    """A text of one or more lines in which what a terminal takes for more than a character is its number, as `\\u{1b}`."""
-    return HIDDEN.sub(lambda it: f"\\u{{{ord(it[0]):x}}}", text)
-
-
 def told(error: InvalidInput) -> str:
     """What an error says, as it is shown. Where something of it is shown by its number, the marks below a line are made
     anew, for the columns that its part at fault has then."""
@@ -173,7 +166,8 @@ class Parser(argparse.ArgumentParser):
     def error(self, message: str) -> NoReturn:
         if sys.stderr is None:
             self.exit(REFUSED)
-        super().error(message)
+        # (words are named in it as they were given)
+        super().error(shown(message))
 
     def _print_message(self, message: str, file: Any = None) -> None:
         if file is not None and file is sys.stderr:

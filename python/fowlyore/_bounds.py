@@ -4,6 +4,8 @@ import enum
 import operator
 from typing import Optional, Union
 
+from .errors import told
+
 __all__ = ["Bounds", "Most", "USUAL", "bounds", "most_cases", "most_clauses", "most_nodes"]
 
 # What the library takes for no bound; a bound beyond it is none either.
@@ -26,9 +28,9 @@ Most = Union[None, int, Usual]
 def _checked(number: Optional[int]) -> Optional[int]:
     if number is None:
         return None
-    number = operator.index(number)
+    number = int(operator.index(number))
     if number < 0:
-        raise ValueError(f"a bound is a number from 0 on or None, not {number}")
+        raise ValueError(f"a bound is a number from 0 on or None, not {told(number)}")
     return number
 
 
@@ -84,7 +86,7 @@ class Bounds:
         self._cases = _checked(number)
 
     def __repr__(self) -> str:
-        return f"Bounds(nodes={self.nodes}, clauses={self.clauses}, cases={self.cases})"
+        return f"Bounds(nodes={told(self.nodes)}, clauses={told(self.clauses)}, cases={told(self.cases)})"
 
 
 bounds = Bounds()

@@ -269,9 +269,9 @@ def _called_beside(call: Callable[[], bytes]) -> bytes:
 
 def _encoded(text: str) -> bytes:
     try:
-        return text.encode()
+        return str.encode(text)
     except UnicodeEncodeError:
-        return text.encode("utf-8", "surrogatepass")
+        return str.encode(text, "utf-8", "surrogatepass")
 
 
 # UTF-8, except that a lone surrogate is encoded too: the library then reports that this is not UTF-8.

@@ -109,6 +109,8 @@ class OwnExtras:
                 raise NotFollowed("a marker asks where an extra is not there")
             return found[0] if extra in within else f"({' or '.join(self._ways(extra, within, depth))})"
 
+        if not depth:
+            self._count = 0
         return _EXTRA.sub(put, marker)
 
     def _ways(self, extra: str, within: FrozenSet[str], depth: int) -> List[str]:

@@ -16,7 +16,8 @@ from .utils import normal_name
 __all__ = ["python_of", "read_archive", "read_distribution", "read_folder", "read_metadata", "read_some", "read_wheel"]
 
 _FIELD = re.compile(r"([!-9;-~]+)[ \t]*:[ \t]*(.*)")
-_DESCRIPTION = re.compile(rb"\n\r?\n")
+_DESCRIPTION = re.compile(rb"(?:\r\n|\r(?!\n)|\n){2}")
+_END = re.compile("\r\n|\r|\n")
 # The fields on which a file that isn't a wheel's may say no more than that the build tells them (PEP 643).
 _OF_LISTS = ("requires-dist", "requires-python", "provides-extra")
 # The files of a source archive that say what it requires.
@@ -45,7 +46,7 @@ def _fields(path: str, data: bytes) -> Iterator[_Field]:
     not looked at. A line that begins with white space goes on with the field before it."""
     text = decoded(path, _DESCRIPTION.split(data, maxsplit=1)[0])
     name, parts, first = "", [""], 0
-    for number, line in enumerate(text.replace("\r\n", "\n").split("\n"), 1):
+    for number, line in enumerate(_END.split(text), 1):
         if not line:
             break
         if line[0] in " \t" and first:

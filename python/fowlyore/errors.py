@@ -1,5 +1,6 @@
 """The errors that are raised for texts that are refused."""
 
+import re
 import unicodedata
 from typing import Optional, Tuple, Type, TypeVar
 
@@ -8,6 +9,8 @@ from . import _native
 __all__ = ["Refused"]
 
 Kind = TypeVar("Kind", bound="Refused")
+# Control characters but line feeds, and what changes the direction of text (UAX #9).
+HIDDEN = re.compile("[\x00-\x09\x0b-\x1f\x7f-\x9f\u061c\u200e\u200f\u202a-\u202e\u2066-\u2069]")
 
 
 class Refused(ValueError):
@@ -50,6 +53,20 @@ class Refused(ValueError):
         blanks = " " * columns(self.text[: self.start])
         carets = "^" * max(1, columns(self.text[self.start : self.end]))
         return f"{self.message}\n    {shown}\n    {blanks}{carets}"
+
+
+def shown(text: str) -> str:
+    """A text of one or more lines in which what a terminal takes for more than a character is its number, as `\\u{1b}`."""
+    return HIDDEN.sub(lambda it: f"\\u{{{ord(it[0]):x}}}", text)
+
+
+def told(value: object) -> str:
+    """How a value is told that was given in place of another one. It may be a number of too many digits for a text, or nest too
+    deep."""
+    try:
+        return repr(value)
+    except Exception:
+        return f"a value of the type {type(value).__name__} that has no text"
 
 
 def columns(text: str) -> int:

@@ -49,7 +49,8 @@ def read(
         if asked:
             refuse_groups(listing.path)
         return listing
-    name = os.fspath(path)
+    # (what has a class of its own may print as something else)
+    name = str.__str__(os.fsdecode(path))
     if os.path.isdir(name):
         name = _file_of(name.rstrip(os.sep) or name)
     if asked and not has_groups(name):

@@ -17,7 +17,7 @@ from typing import (
 
 from . import _native
 from ._bounds import USUAL, Most, most_cases, most_clauses, most_nodes
-from .errors import Refused, characters, columns
+from .errors import Refused, characters, columns, told
 from .distributions import installed
 from .listings import COMMENT, ENVIRONMENTS, LONGEST, REQUIRES_PYTHON, Listing, Located, Place, TooLong
 from .markers import TooManyClauses, TooManyNodes, completed, environment_json, of_mapping
@@ -241,7 +241,7 @@ def as_bytes(name: str, given: Any, otherwise: Callable[[Any], str]) -> Input:
 
 
 def requirements_input(given: Requirements, name: str = "requirements") -> Input:
-    if isinstance(given, str) and _PATH.fullmatch(given):
+    if isinstance(given, str) and not isinstance(given, os.PathLike) and _PATH.fullmatch(given):
         raise InvalidInput(f"{name}: {given!r} is read as a list's text: give a pathlib.Path for a file", input=name)
     if isinstance(given, Listing):
         read = Input(name, given.text, given.path, None if given.is_plain else given)
@@ -338,7 +338,7 @@ def _candidate_lines(given: Any) -> str:
             names.append(name)
             versions.append(version)
     except (TypeError, ValueError):  # of another number of values, or of none
-        raise TypeError(f"a candidate is a pair of a name and a version, not {pairs[len(names)]!r}") from None
+        raise TypeError(f"a candidate is a pair of a name and a version, not {told(pairs[len(names)])}") from None
     if {str}.issuperset(map(type, names)) and {str, Version}.issuperset(map(type, versions)):
         text, joined = "".join([f"{name} {version}\n" for name, version in zip(names, versions)]), "".join(names)
         # (a comment, an empty name, white space in one and a line feed, looked for in all of them at once)
@@ -365,13 +365,13 @@ def _versions_of(name: Any, given: Any) -> Iterator[Union[str, Version]]:
     try:
         return iter([given] if isinstance(given, (str, Version)) else given)
     except TypeError:
-        raise TypeError(f"the versions of {name!r} are one str or several, not {type(given).__name__}") from None
+        raise TypeError(f"the versions of {told(name)} are one str or several, not {type(given).__name__}") from None
 
 
 def extras_input(given: Extras) -> Input:
     extras = [given] if isinstance(given, str) else list(given)
     if any(not isinstance(it, str) or not it or _NO_NAME.search(it) for it in extras):
-        raise InvalidInput(f"extras: {extras!r}: an extra is a name", input="extras")
+        raise InvalidInput(f"extras: {told(extras)}: an extra is a name", input="extras")
     return Input("extras", _native.encoded("\n".join(extras)))
 
 

@@ -12,7 +12,7 @@ from typing import TYPE_CHECKING, Any, Callable, Dict, Iterable, List, Literal, 
 from . import _native
 from ._bounds import USUAL, Most, most_clauses, most_nodes
 from ._cached import keep
-from .errors import Refused, on_one_line, refusal
+from .errors import Refused, on_one_line, refusal, told
 from .version import InvalidVersion, Version, text_of
 
 __all__ = [
@@ -146,18 +146,22 @@ def completed(given: Optional[Mapping[str, Any]]) -> Dict[str, Any]:
 
 
 def of_mapping(given: Mapping[str, Any]) -> Mapping[str, Any]:
-    """An environment that is given as a mapping; of pairs what is looked for in a mapping wouldn't be found."""
+    """An environment that is given as a mapping, or as what has only the keys of one and their values, as a row of a table; of
+    pairs what is looked for in a mapping wouldn't be found."""
+    if isinstance(given, (dict, Mapping)):
+        return given
     if not hasattr(given, "keys"):
         raise TypeError(f"an environment is a mapping, not {type(given).__name__}")
-    return given
+    return dict(given)
 
 
 def _completed(running: Dict[str, str], given: Optional[Mapping[str, Any]]) -> Dict[str, Any]:
     environment: Dict[str, Any] = dict(running)
     if given is not None:
-        environment.update(of_mapping(given))
-        if "python_version" in given and "python_full_version" not in given:
-            environment["python_full_version"] = given["python_version"]
+        values = of_mapping(given)
+        environment.update(values)
+        if "python_version" in values and "python_full_version" not in values:
+            environment["python_full_version"] = values["python_version"]
     return environment
 
 
@@ -185,7 +189,7 @@ def environment_json(environment: Mapping[str, Any]) -> bytes:
 
 def _read_environment(given: Optional[Mapping[str, Any]]) -> Tuple[bytes, Any]:
     """The JSON of the running interpreter's environment with other values put in, and the extra there."""
-    running, items = _running(), tuple(of_mapping(given).items()) if given else ()
+    running, items = _running(), () if given is None else tuple(of_mapping(given).items())
     try:
         kept = _kept_given.get(items)
     except TypeError:  # a value that can't be hashed
@@ -193,8 +197,8 @@ def _read_environment(given: Optional[Mapping[str, Any]]) -> Tuple[bytes, Any]:
     if kept is None or kept[0] is not running:
         values = _completed(running, given)
         kept = running, environment_json(values), values.get("extra")
-        if {str}.issuperset(type(it) for _, it in items):
-            keep(_kept_given, items, kept, _MOST_KEPT, sum(len(str(it)) for item in items for it in item))
+        if {str}.issuperset(type(it) for item in items for it in item):
+            keep(_kept_given, items, kept, _MOST_KEPT, sum(len(it) for item in items for it in item))
     return kept[1:]
 
 
@@ -290,6 +294,8 @@ class Marker:
     _found_shape: Optional[_Shape]
 
     def __init__(self, marker: str) -> None:
+        if hasattr(self, "_joined"):
+            raise TypeError("a marker is made once")
         if not isinstance(marker, str):
             raise TypeError(f"a marker is read from a str, not from {type(marker).__name__}")
         on_one_line(InvalidMarker, marker)
@@ -332,25 +338,24 @@ class Marker:
         'x'==platform.version
         """
         if self._text is None:
-            text = self._normal_text() or self._given
-            if self._beyond is not None:
-                return text
-            self._text = text
+            text = self._normal_text()
+            if text is None:
+                return self._given
+            self._text = text or self._given
         return self._text
 
-    def _normal_text(self) -> str:
-        """The normal text, and an empty text if there is none, or none is made within `bounds`."""
-        within = most_nodes(), most_clauses()
-        if self._beyond is not None and within[0] <= self._beyond[0] and within[1] <= self._beyond[1]:
-            return ""
-        self._beyond = None
+    def _normal_text(self) -> Optional[str]:
+        """The normal text, an empty text if there is none, and None if none is made within `bounds`."""
+        within, beyond = (most_nodes(), most_clauses()), self._beyond
+        if beyond is not None and within[0] <= beyond[0] and within[1] <= beyond[1]:
+            return None
         try:
             return _native.marker(self._bytes(), *within)
         except (_native.TooManyNodes, _native.TooManyClauses):
             self._beyond = within
+            return None
         except _native.Fault:
-            pass
-        return ""
+            return ""
 
     def __repr__(self) -> str:
         return f"<Marker({str(self)!r})>"
@@ -542,11 +547,14 @@ class Marker:
         """
         values, extra = _read_environment(environment)
         asked = self._given, values, extra or None
-        answer = _kept_answers.get(asked) if not extra or type(extra) is str else None
+        # (a text that has a class of its own may be equal to others)
+        is_plain = not extra or type(extra) is str
+        answer = _kept_answers.get(asked) if is_plain else None
         if answer is None:
             names = _native.encoded(_lines_of([extra])) if extra else b""
             answer = _answers([self], f"{self._given}\n", values, names) == b"1"
-            keep(_kept_answers, asked, answer, _MOST_ANSWERS, len(self._given) + len(values) + len(names))
+            if is_plain:
+                keep(_kept_answers, asked, answer, _MOST_ANSWERS, len(self._given) + len(values) + len(names))
         return answer
 
 
@@ -634,7 +642,7 @@ def _lines_of(extras: Iterable[str]) -> str:
     lines = list(extras)
     for it in lines:
         if not isinstance(it, str) or "\n" in it or not it:
-            raise UndefinedEnvironmentName(f"extra {it!r} is no name")
+            raise UndefinedEnvironmentName(f"extra {told(it)} is no name")
     return "\n".join(lines)
 
 

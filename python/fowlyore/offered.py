@@ -16,7 +16,7 @@ from .lists import InvalidInput, decoded, read_whole, unread
 from .progress import Progress
 from .projects import is_lock, locked_versions
 from .specifiers import InvalidSpecifier, SpecifierSet
-from .utils import normal_name
+from .utils import Tag, normal_name
 from .version import Version, is_version
 
 __all__ = ["read_candidates", "wheelhouse"]
@@ -38,9 +38,9 @@ class _Interpreter:
     What isn't given is not looked at."""
 
     def __init__(self, python: Optional[str], tags: Optional[Iterable[object]]) -> None:
-        self.python = python
         self._release = None if python is None else Version(python).base_version
-        each: Optional[Iterable[object]] = [tags] if isinstance(tags, str) else tags
+        self.python = None if python is None else str.__str__(python)
+        each: Optional[Iterable[object]] = [tags] if isinstance(tags, (str, Tag)) else tags
         self._tags = None if each is None else frozenset(str.lower(it if isinstance(it, str) else str(it)) for it in each)
         self._answers: Dict[str, bool] = {}
 
@@ -100,7 +100,7 @@ def wheelhouse(
     >>> wheelhouse(folder, tags=["cp39-abi3-linux_x86_64", "py3-none-any"])
     [('foo_bar', '1.0'), ('foo_bar', '1.1')]
     """
-    path = os.fspath(folder)
+    path = str.__str__(os.fsdecode(folder))
     interpreter = _Interpreter(python, tags)
     found: Dict[Candidate, None] = {}
     names = sorted(os.listdir(path))
@@ -176,7 +176,7 @@ def read_candidates(
     >>> read_candidates(path)
     [('foo', '1.0')]
     """
-    name = os.fspath(path)
+    name = str.__str__(os.fsdecode(path))
     if os.path.isdir(name):
         return wheelhouse(name, left_out, python=python, tags=tags)
     is_locked = is_lock(os.path.basename(name))

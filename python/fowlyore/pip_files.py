@@ -6,6 +6,7 @@ own parser is what the tests hold this against.
 """
 
 import codecs
+import errno
 import os
 import re
 from typing import Any, BinaryIO, Dict, Iterator, List, NamedTuple, NoReturn, Optional, Set, Tuple
@@ -41,7 +42,10 @@ _UNNAMED = re.compile(
     r"[^;\[@]*\.(?:whl|zip|tgz|tbz|txz|tlz|tar|tar\.(?:gz|bz2|xz|lz|lzma))\s*(?:\[[^\]]*\]\s*)?(?:;|$)",
     re.I,
 )
-_BEHIND_PATH = re.compile(r"\s*[;\[]")
+_BEHIND_PATH = re.compile(r"[;\[]")
+# A part of a word, or what stands between words, as in a shell.
+_PART = re.compile(r"""([ \t\r\n]+)|([^ \t\r\n'"\\]+)|'([^']*)'|"([^"\\]*(?:\\.[^"\\]*)*)"|\\(.)""", re.S)
+_ESCAPED = re.compile(r"""\\(["\\])""")
 _HASHES = re.compile(r"--hash=sha(?:256|384|512):[^\s'\"\\]+(?: +--hash=sha(?:256|384|512):[^\s'\"\\]+)*")
 _STRONG = ("sha256", "sha384", "sha512")
 # The options of a requirements file, by their spellings, and whether they have a value.
@@ -93,6 +97,8 @@ class _File(Source):
         count = text.count("\n") + (text[-1:] not in ("", "\n"))
         # (most files have no other end of a line than a line feed)
         self.has_hidden_lines = len(self.lines) != count and any(map(_hides_lines, text.split("\n")))
+        # (the one white space of pip that ends no line, and after which the library sees no comment)
+        self.has_hidden_lines |= "\x1f#" in text
         low = text.lower()
         self.has_archives = "${" in text or any(it in low for it in _ARCHIVES)
 
@@ -166,14 +172,26 @@ def _unexpanded(text: str, at: int, is_end: bool) -> int:
 
 
 def _hides_lines(line: str) -> bool:
-    """Whether a line, which ends in a line feed, has a comment for the library over lines that it doesn't have for pip."""
-    is_hidden = False
+    """Whether a line, which ends in a line feed, has for the library a comment, or a URL, that goes over lines which are others
+    for pip."""
+    is_comment = is_url = False
     for it in line.splitlines():
         front, *comment = COMMENT.split(it, maxsplit=1)
-        if is_hidden and front.strip():
+        # (in a URL a `#` may begin no comment)
+        if is_comment and front.strip() or is_url and it.strip():
             return True
-        is_hidden = is_hidden or bool(comment)
+        is_comment = is_comment or bool(comment)
+        is_url = is_url or "@" in front and _ends_in_url(front)
     return False
+
+
+def _ends_in_url(text: str) -> bool:
+    """Whether a text is a requirement with a URL and nothing after it."""
+    try:
+        parts = _native.requirement(_native.encoded(text))
+    except _native.Fault:
+        return False
+    return bool(parts.url) and parts.marker is None
 
 
 def _logical_lines(lines: List[str]) -> Iterator[Tuple[int, str]]:
@@ -354,7 +372,7 @@ class _Reading:
 
     def _is_left_out(self, file: _File, number: int, text: str, given: str) -> bool:
         """Whether a line is a path, an archive or a URL without a name, which is told then."""
-        if not _UNNAMED.match(text) and not ("/" in text and os.path.isdir(_BEHIND_PATH.split(text, 1)[0])):
+        if not _UNNAMED.match(text) and not ("/" in text and os.path.isdir(_BEHIND_PATH.split(text, 1)[0].rstrip())):
             return False
         try:
             _native.requirement(_native.encoded(text))
@@ -400,18 +418,12 @@ class _Reading:
 
     def _options_of(self, text: str) -> _Options:
         """The options of a text, read as pip reads them."""
-        import shlex
-
         if self._parser is None:
             self._parser = _new_parser()
         named: List[Tuple[str, Optional[str]]] = []
         values = self._parser.get_default_values()
         values.named = named
-        try:
-            words = shlex.split(text)
-        except ValueError as error:
-            raise _NoOption(f"options that can't be split: {error}") from None
-        _, left = self._parser.parse_args(words, values)
+        _, left = self._parser.parse_args(_words_of(text), values)
         return _Options(named, left)
 
     def _tell(self, file: _File, number: int, options: _Options, looked_at: str) -> None:
@@ -454,11 +466,14 @@ class _Reading:
         path = os.path.join(os.path.dirname(file.path), named)
         where = file.located(number, max(0, text.find(named)), len(text))
         try:
-            if b"\0" in os.fsencode(path):
-                raise ValueError(path)
-            key = _key_of(path)
+            os.stat(path)
         except ValueError:  # of a NUL, or of half a surrogate pair
             raise refused(where, f"{path!r} is no path") from None
+        except OSError as error:
+            # (making a key of it takes time that is quadratic in its length; of others it is told below)
+            if error.errno == errno.ENAMETOOLONG:
+                raise refused(where, f"{path}: {error.strerror}") from None
+        key = _key_of(path)
         is_constraint = option == "-c"
         if key in self._within:
             raise refused(where, f"{path} is being read: it names itself, or a file that names it")
@@ -498,6 +513,51 @@ def _has_extras(text: str) -> bool:
         return False
 
 
+def _words_of(text: str) -> List[str]:
+    """The words of a text, those that `shlex.split` finds, which takes time that is quadratic in a long word."""
+    words: List[str] = []
+    parts: List[str] = []
+    at = 0
+    while at < len(text):
+        found = _PART.match(text, at)
+        if found is None:
+            what = "No escaped character" if text[at] == "\\" else "No closing quotation"
+            raise _NoOption(f"options that can't be split: {what}")
+        at = found.end()
+        if found[1] is None:
+            parts.append(next(it for it in (found[2], found[3], found[5], _ESCAPED.sub(r"\1", found[4] or "")) if it is not None))
+        elif parts:
+            words.append("".join(parts))
+            parts = []
+    return [*words, "".join(parts)] if parts else words
+
+
+class _Words:
+    """Words that are taken, and put back, at their front in constant time: what the module for options needs of a list."""
+
+    def __init__(self, words: List[str]) -> None:
+        self._left = words[::-1]
+
+    def __len__(self) -> int:
+        return len(self._left)
+
+    def __getitem__(self, at: int) -> str:
+        return self._left[-1 - at]
+
+    def __delitem__(self, at: int) -> None:
+        del self._left[-1 - at]
+
+    def pop(self, at: int) -> str:
+        return self._left.pop(-1 - at)
+
+    def insert(self, at: int, word: str) -> None:
+        self._left.insert(len(self._left) - at, word)
+
+    def left(self) -> List[str]:
+        """Those that were not taken."""
+        return self._left[::-1]
+
+
 def _new_parser() -> Any:
     """A parser of the options of a requirements file, by the module that pip has it from."""
     import optparse
@@ -505,6 +565,11 @@ def _new_parser() -> Any:
     class Parser(optparse.OptionParser):
         def error(self, msg: str) -> NoReturn:
             raise _NoOption(msg)
+
+        def _process_args(self, largs: List[str], rargs: List[str], values: Any) -> None:
+            words: Any = _Words(rargs)
+            super()._process_args(largs, words, values)
+            rargs[:] = words.left()
 
     def take(option: Any, spelling: str, value: Optional[str], parser: Any) -> None:
         name = _SHORT.get(spelling, spelling)

@@ -6,6 +6,8 @@ import threading
 import time
 from typing import Optional, TextIO
 
+from .errors import shown
+
 __all__ = ["Progress", "is_terminal"]
 
 # For how many seconds nothing is shown, and how often it is shown then.
@@ -43,7 +45,7 @@ class Progress:
     def line(self, seconds: float) -> str:
         """What is shown after so many seconds."""
         of_steps = f"{self._done} of {self._count}, " if self._count else ""
-        return f"{self._what}: {of_steps}{seconds:.0f} s"
+        return f"{shown(self._what)}: {of_steps}{seconds:.0f} s"
 
     def __enter__(self) -> "Progress":
         if self.is_wanted and is_terminal(sys.stderr):

@@ -132,8 +132,10 @@ class Requirement:
 
     def _text(self, marker: str) -> str:
         """The text of its parts, with this marker text; without a marker if that is empty."""
-        url = f" @ {self.url}" + (" " if marker else "") if self.url else ""
-        return f"{self._front()}{self.specifier}{url}" + (f"; {marker}" if marker else "")
+        # (what has a class of its own may print as something else than its characters)
+        specifier, url = (it if isinstance(it, str) else str(it) for it in (self.specifier, self.url or ""))
+        behind = " @ " + url + (" " if marker else "") if url else ""
+        return self._front() + specifier + behind + (f"; {marker}" if marker else "")
 
     def __str__(self) -> str:
         return self._text("" if self.marker is None else str(self.marker))

@@ -75,12 +75,14 @@ def _told_apart(environments: Sequence[Mapping[str, Any]]) -> List[str]:
     first."""
     keys = [*_FIRST, *sorted({key for it in environments for key in it} - set(_FIRST))]
     chosen: List[str] = []
-    parts = 1
+    # (of each environment the number of those that the chosen values don't tell it from)
+    groups, count = [0] * len(environments), 1
     for key in keys:
-        split = len({tuple(str(it.get(name)) for name in (*chosen, key)) for it in environments})
-        if split > parts:
+        numbers: Dict[Tuple[int, str], int] = {}
+        split = [numbers.setdefault((group, str(it.get(key))), len(numbers)) for group, it in zip(groups, environments)]
+        if len(numbers) > count:
             chosen.append(key)
-            parts = split
+            groups, count = split, len(numbers)
     return [", ".join(f"{key} {_printable(str(it.get(key)))}" for key in chosen) for it in environments]
 
 
@@ -214,7 +216,16 @@ def _wrapped(sentence: str, width: Optional[int]) -> List[str]:
     if width is None:
         return [f"    {sentence}"]
     how: Dict[str, Any] = {"initial_indent": "    ", "subsequent_indent": "      ", "break_on_hyphens": False}
-    return textwrap.wrap(sentence, max(20, width), **how)
+    return _Wrapper(max(20, width), **how).wrap(sentence)
+
+
+class _Wrapper(textwrap.TextWrapper):
+    """One that breaks a long word at once. The one that it is of does so line by line, each time with a copy of what is left."""
+
+    def _handle_long_word(self, reversed_chunks: List[str], cur_line: List[str], cur_len: int, width: int) -> None:
+        word, at, room = reversed_chunks.pop(), max(1, width - cur_len), self.width - len(self.subsequent_indent)
+        cur_line.append(word[:at])
+        reversed_chunks += reversed([word[begin : begin + room] for begin in range(at, len(word), room)])
 
 
 def check_page(rows: Sequence[Row], explanations: Sequence[Explanation], title: str) -> str:

@@ -82,10 +82,12 @@ _MOST_KEPT = 4096
 
 def normal_name(name: str) -> str:
     """A name's normal form, or an empty text if it is not a name."""
-    normal = _kept_names.get(name)
+    # (a text that has a class of its own may be equal to others)
+    normal = _kept_names.get(name) if type(name) is str else None
     if normal is None:
         normal = _read_name(name)
-        keep(_kept_names, name, normal, _MOST_KEPT, len(name))
+        if type(name) is str:
+            keep(_kept_names, name, normal, _MOST_KEPT, len(name))
     return normal
 
 

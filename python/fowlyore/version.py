@@ -4,7 +4,7 @@ import re
 from typing import Any, NamedTuple, Optional, Tuple
 
 from . import _native
-from .errors import Refused, refusal
+from .errors import Refused, refusal, told
 
 __all__ = ["InvalidVersion", "Version", "normalize_pre", "parse"]
 
@@ -72,8 +72,8 @@ class Version:
 
     def __init__(self, version: str) -> None:
         try:
-            text = version.encode()
-        except (AttributeError, UnicodeEncodeError):
+            text = str.encode(version)
+        except (TypeError, UnicodeEncodeError):
             text = _bytes_of(version)
         # (in these lines, since another call would cost as much as the library's)
         try:
@@ -322,17 +322,17 @@ def text_of_parts(parts: Parts) -> str:
     _want(_is_number(epoch), "epoch", "a number from 0 to 2^64 - 1", epoch)
     is_release = isinstance(release, tuple) and bool(release) and all(map(_is_number, release))
     _want(is_release, "release", "a tuple of numbers from 0 to 2^64 - 1", release)
-    text = (f"{epoch:d}!" if epoch else "") + ".".join(f"{it:d}" for it in release)
+    text = (f"{_digits(epoch)}!" if epoch else "") + ".".join(map(_digits, release))
     if parts.pre is not None:
         letter, number = parts.pre if isinstance(parts.pre, tuple) and len(parts.pre) == 2 else ("", -1)
         letter = normalize_pre(letter) if isinstance(letter, str) else ""
         is_pre = letter in ("a", "b", "rc") and _is_number(number)
         _want(is_pre, "pre", "a pair of 'a', 'b' or 'rc' and a number from 0 to 2^64 - 1", parts.pre)
-        text += f"{letter}{number:d}"
+        text += f"{letter}{_digits(number)}"
     for name, value in (("post", parts.post), ("dev", parts.dev)):
         if value is not None:
             _want(_is_number(value), name, "a number from 0 to 2^64 - 1", value)
-            text += f".{name}{value:d}"
+            text += f".{name}{_digits(value)}"
     if parts.local is not None:
         # (white space at its end would be read as that around a version)
         is_local = isinstance(parts.local, str) and parts.local.split() == [parts.local]
@@ -345,14 +345,14 @@ def _is_number(value: object) -> bool:
     return isinstance(value, int) and 0 <= value < 1 << 64
 
 
+def _digits(number: int) -> str:
+    """The digits of a number, which may have a class of its own and print as something else."""
+    return int.__repr__(number)
+
+
 def _want(is_given: bool, part: str, what: str, value: object) -> None:
-    if is_given:
-        return
-    try:
-        said = repr(value)
-    except ValueError:  # of a number of some thousand digits
-        said = "one of too many digits"
-    raise InvalidVersion(f"{part} has to be {what}, not {said}")
+    if not is_given:
+        raise InvalidVersion(f"{part} has to be {what}, not {told(value)}")
 
 
 def is_prerelease(text: str) -> bool:

@@ -1,5 +1,6 @@
 """Bounds on what calls make of markers and of lists."""
 
+import enum
 import threading
 import unittest
 from unittest import mock
@@ -106,6 +107,35 @@ class Usual(unittest.TestCase):
                     fowlyore.conflicts("a", cases=bound) if name == "cases" else Marker(SMALL).negate(**{name: bound})
         with self.assertRaises(AttributeError):
             fowlyore.bounds.lines = 1
+
+
+    def test_numbers_that_print_as_others(self):
+        fowlyore.bounds.nodes = enum.Enum("numbers", {"two": 2}, type=int).two
+        self.assertRegex(repr(fowlyore.bounds), r"^Bounds\(nodes=2, ")
+
+    def test_numbers_without_a_text(self):
+        """A number of some thousand digits can't be printed."""
+        for name in ("nodes", "clauses", "cases"):
+            with self.assertRaisesRegex(ValueError, "^a bound is a number from 0 on or None, not "):
+                setattr(fowlyore.bounds, name, -(10**5000))
+        with self.assertRaisesRegex(ValueError, "^a bound is a number from 0 on or None, not "):
+            Marker("os_name == 'nt'").implies(Marker("os_name == 'nt'"), nodes=-(10**5000))
+        fowlyore.bounds.nodes = 10**5000
+        self.assertRegex(repr(fowlyore.bounds), r"^Bounds\(nodes=(a value of the type int that has no text|10+), clauses=\d+, ")
+
+    def test_a_text_that_is_made_within_other_bounds_meanwhile(self):
+        """Where another thread forgets what this one was refused within, this one doesn't keep the given text as the normal one."""
+        class Meanwhile(Marker):
+            def _normal_text(self):
+                text = super()._normal_text()
+                self._beyond = None
+                return text
+
+        marker = Meanwhile("'nt' == os_name")
+        fowlyore.bounds.nodes = 0
+        self.assertEqual(str(marker), "'nt' == os_name")
+        fowlyore.bounds.nodes = 1_000_000
+        self.assertEqual(str(marker), "os_name == 'nt'")
 
 
 class ByCall(unittest.TestCase):

@@ -109,6 +109,12 @@ class Commands(unittest.TestCase):
             self.assertEqual((status, err), (0, ""))
             self.assertIn("(foo!=1\t; os_name != &#x27;&lt;&amp;\x1b[2J\u202e&#x27;) accepts no candidate", out)
 
+    def test_control_characters_of_words(self):
+        """They are shown by their numbers where the command line is refused too."""
+        for words, said in ((["a", "b\x1b[2J"], r"b\u{1b}[2J"), (["a", "--\x9b"], r"--\u{9b}"), (["a", "--ex\u202e"], r"--ex\u{202e}")):
+            status, out, err = run("check", *words)
+            self.assertEqual((status, out, err.split("\n")[-2]), (2, "", f"fowlyore: error: unrecognized arguments: {said}"))
+
     def test_words(self):
         self.assertEqual(run("--version"), (0, f"fowlyore {__version__}\n", ""))
         for words in ((), ("chekc",), ("same", "a"), ("check", "a", "--limit", "3"), ("conflicts", "a", "--limit", "x")):

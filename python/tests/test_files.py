@@ -3,12 +3,15 @@
 import os
 import pathlib
 import random
+import shlex
 import tempfile
 import unittest
 from unittest import mock
 
 import fowlyore
-from fowlyore import Conflict, InvalidInput, ListedLine, Place, check, conflicts, matrix, matrix_texts, normal, read, same
+from fowlyore import (
+    Conflict, InvalidInput, ListedLine, Place, check, conflicts, matrix, matrix_texts, normal, pip_files, read, same,
+)  # fmt: skip
 from fowlyore.explanations import explain
 from fowlyore.pip_files import DEEPEST
 from tests.test_command import run
@@ -118,6 +121,44 @@ class Plain(InFolder):
                 self.assertEqual(normal(read(self.write(a=text))), wanted, ascii(text))
             for text in (f"foo # c{end}\n", f"# c{end}# d\n{end}\nfoo{end}\n", f"foo ; platform_version == 'a{end}b'\n"):
                 self.assertTrue(read(self.write(a=text)).is_plain, ascii(text))
+
+    def test_lines_that_a_url_hides(self):
+        """As those that a comment hides: for the library a URL may have in it what ends a line for pip."""
+        for end in ("\x0b", "\x0c", "\x1c", "\x85", "\u2028"):
+            for text, count in ((f"a @ https://e.org/x{end}bar>=1\n", 2), (f"a @ https://e.org/x{end}#c ; os_name == 'nt'\n", 1)):
+                listing = read(self.write(a=text))
+                wanted = ["a @ https://e.org/x", "bar>=1"][:count]
+                self.assertEqual(([it.text for it in listing.lines], len(check(listing, ENVIRONMENT, ""))), (wanted, count), ascii(text))
+            for text in (f"a @ https://e.org/x{end} {end}\n", f"a ; platform_version == '@{end}b'\n"):
+                self.assertTrue(read(self.write(a=text)).is_plain, ascii(text))
+        listing = read(self.write(a="a @ https://e.org/x\x1f#c ; os_name == 'nt'\n"))
+        self.assertEqual([it.text for it in listing.lines], ["a @ https://e.org/x"])
+
+    def test_long_lines(self):
+        """They take time linear in their length, whatever they are made of."""
+        many = 300_000
+        listing = read(self.write(a=f"--pre\nfoo/bar{' ' * many}baz\n"))
+        self.assertEqual(len(listing.lines[0].text), many + 10)
+        long = "a" * 8 * many
+        for words in (f"-e {long}", f"-e '{long}'", "--pre " * many, "--pre" + " -e=a" * many, "--pre" + " a" * many):
+            listing = read(self.write(a=f"{words}\n"))
+            self.assertEqual((listing.lines, listing.left_out[0].what), ([], words[:5].split(" ")[0]))
+        for end in ("a", "a/", "../"):
+            with self.assertRaisesRegex(InvalidInput, "/: File name too long\n" if end[-1] == "/" else "a: File name too long\n"):
+                read(self.write(a=f"-r {end * many}\n"))
+
+    def test_words_of_options(self):
+        """They are those that pip takes apart by `shlex`."""
+        rng = random.Random(1)
+        for _ in range(3000):
+            text = "".join(rng.choices("ab- '\"\\\t\u00e9#", k=rng.randrange(12)))
+            try:
+                wanted = shlex.split(text)
+            except ValueError:
+                with self.assertRaises(pip_files._NoOption, msg=text):
+                    pip_files._words_of(text)
+            else:
+                self.assertEqual(pip_files._words_of(text), wanted, text)
 
     def test_a_url_with_a_variable(self):
         """A variable that isn't set stays, and the library reads the line as it does in any list."""

@@ -306,9 +306,9 @@ class Refusals(unittest.TestCase):
         for lines in ([None], [3], [b"a"], ["a", 1.5], memoryview(b"a")):
             with self.assertRaises(TypeError, msg=lines):
                 fowlyore.normal(lines)
-        for extras in ([3], [None], [b"a"], b"a", ["a", "\ud800"]):
+        for extras in ([3], [None], [b"a"], b"a", ["a", "\ud800"], [10**5000]):
             error = self.refused(fowlyore.check, "a", None, "", extras)
-            self.assertEqual((error.input, error.message[:8]), ("extras", "extras: "), extras)
+            self.assertEqual((error.input, error.message[:8]), ("extras", "extras: "))
 
     def test_what_prints_as_a_line(self):
         """Of a mapping the values would be lost, and a path or a member of an `Enum` prints as a text that is no requirement."""
@@ -324,15 +324,55 @@ class Refusals(unittest.TestCase):
             with self.assertRaisesRegex(TypeError, "a candidate is a pair|is given as a str", msg=pair):
                 fowlyore.check("a", candidates=[("b", "1"), pair])
 
+    def test_numbers_without_a_text(self):
+        """A number of some thousand digits can't be printed."""
+        many = 10**5000
+        for candidates in ([(many,)], [many], {many: None}, [(many, "1")], [("a", many)], {many: "1"}, {"a": [many]}):
+            with self.assertRaisesRegex(TypeError, "a candidate is a pair|the versions of .* are one|is given as a str"):
+                fowlyore.check("a", candidates=candidates)
+
+    def test_a_path_that_is_a_text(self):
+        """What is both is a path."""
+        class Path(str):
+            def __fspath__(self):
+                return str(self)
+
+        with tempfile.TemporaryDirectory() as folder:
+            for name in ("requirements.txt", "list"):
+                path = pathlib.Path(folder, name)
+                path.write_text("foo\n")
+                self.assertEqual((fowlyore.normal(Path(path)), fowlyore.read(Path(path)).path), (["foo"], str(path)))
+
     def test_environments_that_are_no_mappings(self):
         environment = fowlyore.default_environment()
         pairs = list(environment.items())
         calls = [lambda: fowlyore.check("a", pairs, ""), lambda: fowlyore.check("a", 3, "")]
         calls += [lambda it=it: fowlyore.matrix("a", it, "") for it in (environment, [pairs], [None], ["{}"])]
-        calls += [lambda it=it: fowlyore.Marker("os_name == 'nt'").evaluate(it) for it in (pairs, "os_name", 3)]
+        marker = fowlyore.Marker("os_name == 'nt'")
+        calls += [lambda it=it: marker.evaluate(it) for it in (pairs, "os_name", 3, [], "", 0, False)]
+        # (whatever is known of the running environment)
+        self.assertEqual(marker.evaluate({}), marker.evaluate())
         for call in calls:
             with self.assertRaisesRegex(TypeError, "^an environment is a mapping, not "):
                 call()
+
+    def test_environments_that_have_only_keys(self):
+        """As a row of a table, they are read as a mapping is."""
+        class Keys:
+            def __init__(self, values):
+                self.keys, self.__class__.__getitem__ = values.keys, lambda self, key: values[key]
+
+            def __iter__(self):
+                return iter(self[key] for key in self.keys())
+
+        values = {**fowlyore.default_environment(), "os_name": "nt", "python_version": "2.7"}
+        del values["python_full_version"]
+        for given in (values, Keys(values)):
+            self.assertTrue(fowlyore.Marker("os_name == 'nt' and python_version == '2.7'").evaluate(given))
+            (row,) = fowlyore.check("a ; os_name == 'nt' and python_version == '2.7'", given, "a 1")
+            self.assertEqual(row.outcome, "1")
+        values["python_full_version"] = "2.7.18"
+        self.assertEqual(fowlyore.matrix("a", [Keys(values)], "a 1"), [[row]])
 
     def test_too_long(self):
         """A file is refused as its text is, of which no more is read than that takes."""

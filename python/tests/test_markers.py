@@ -15,6 +15,7 @@ from unittest import mock
 from fowlyore import (
     InvalidMarker, InvalidVersion, Marker, Requirement, Specifier, UndefinedEnvironmentName, Version, _native, default_environment,
 )  # fmt: skip
+from fowlyore.utils import canonicalize_name
 
 WINDOWS = {"os_name": "nt", "sys_platform": "win32", "platform_system": "Windows", "python_version": "3.12"}
 ALWAYS, NEVER = "os_name == 'nt' or os_name != 'nt'", "os_name == 'nt' and os_name == 'posix'"
@@ -131,9 +132,47 @@ class Markers(unittest.TestCase):
                 Marker("os_name == 'nt'").evaluate(environment)
 
     def test_extras_that_are_none(self):
-        for extra in ("a\nb", "b\n", "\nb", "\n", "no name", "-", 1, b"b", ["b"], {"b"}):
-            with self.assertRaises(UndefinedEnvironmentName, msg=repr(extra)):
+        deep = functools.reduce(lambda it, _: [it], range(100_000), [])
+        for extra in ("a\nb", "b\n", "\nb", "\n", "no name", "-", 1, b"b", ["b"], {"b"}, 10**5000, [10**5000], deep):
+            with self.assertRaises(UndefinedEnvironmentName):
                 Marker("extra == 'b'").evaluate({"extra": extra})
+            if extra.__hash__:
+                with self.assertRaises(UndefinedEnvironmentName):
+                    Marker("extra == 'b'").simplify_extras([extra])
+
+    def test_environments_with_other_keys(self):
+        """They aren't looked at, also if they have no text."""
+        for key in (10**5000, (), None, b"os_name", frozenset([10**5000])):
+            self.assertTrue(Marker("os_name == 'nt'").evaluate({key: "x", "os_name": "nt"}))
+
+    def test_texts_that_are_equal_to_others(self):
+        """Answers on them aren't kept, and given where another text is asked about."""
+        class Odd(str):
+            def __eq__(self, other):
+                return True
+
+            def __hash__(self):
+                return hash("odd-b")
+
+        marker = Marker("extra == 'odd-a'")
+        self.assertTrue(marker.evaluate({"extra": Odd("odd-a")}))
+        self.assertFalse(marker.evaluate({"extra": "odd-b"}))
+        self.assertEqual(canonicalize_name(Odd("Odd_A")), "odd-a")
+        self.assertEqual(canonicalize_name("odd-b"), "odd-b")
+
+    def test_made_once(self):
+        """So that none that is kept by its hash changes, nor what was joined of it."""
+        marker, joined = Marker("os_name == 'nt'"), Marker("os_name == 'nt'") & Marker("extra == 'x'")
+        for it in (marker, joined):
+            for text in ("os_name == 'posix'", "no marker"):
+                with self.assertRaisesRegex(TypeError, "^a marker is made once$"):
+                    it.__init__(text)
+        self.assertEqual((str(marker), str(joined)), ("os_name == 'nt'", "os_name == 'nt' and extra == 'x'"))
+        again = Marker.__new__(Marker)
+        with self.assertRaises(InvalidMarker):
+            again.__init__("no marker")
+        again.__init__("os_name == 'nt'")
+        self.assertEqual(again, marker)
 
     def test_weak_references(self):
         for it in (Marker("os_name == 'nt'"), Requirement("foo")):

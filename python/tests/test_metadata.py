@@ -14,6 +14,7 @@ import zipfile
 from unittest import mock
 
 from fowlyore import InvalidInput, LeftOut, Place, check, core_metadata, read, read_candidates, wheelhouse
+from fowlyore.utils import Tag
 from tests.test_command import run
 from tests.test_files import ENVIRONMENT, InFolder
 
@@ -139,6 +140,14 @@ class Metadata(OfMetadata):
         for end in (b"\n", b"\r\n"):
             path.write_bytes(end.join([b"Name: a", b"Requires-Dist: b", b"", b"\xff", b"", b"Requires-Dist: c"]))
             self.assertEqual(self.lines(read(path)), [("b", 2)])
+
+    def test_ends_of_lines(self):
+        """They are those of the module for messages, which reads metadata too: also a carriage return alone."""
+        for end in ("\n", "\r\n", "\r"):
+            lines = ["Name: a", "Requires-Dist: foo", " >=1", "Requires-Dist: bar", "", "Requires-Dist: not", ""]
+            path = self.folder / "METADATA"
+            path.write_bytes(end.join(lines).encode() + b"\xff")
+            self.assertEqual(self.lines(read(path)), [("foo >=1", 2), ("bar", 4)], ascii(end))
 
     def test_folders(self):
         for name, file in (("app-1.0.dist-info", "METADATA"), ("app.egg-info", "PKG-INFO")):
@@ -402,6 +411,39 @@ class Wheelhouses(OfMetadata):
         self.assertEqual((status, out, err[: len(said)]), (0, "foo 6\n", said))
 
 
+class Paths(OfMetadata):
+    def test_texts_that_print_as_others(self):
+        """What counts of a member of an `Enum` that is a text is that text, also in what is told."""
+        path, page = self.write(a="--pre\nfoo\n"), self.folder / "foo.json"
+        page.write_text('{"name": "foo", "files": [{"filename": "foo-1.zip", "requires-python": "<3"}]}')
+        given = {"list": str(path), "page": str(page), "folder": str(self.folder), "python": "3.9"}
+        texts, told = enum.Enum("texts", given, type=str), []
+        self.assertEqual(str(read(texts.list).left_out[0]), f"{path}: line 1: left out: --pre (an option of pip)")
+        self.assertEqual(read_candidates(texts.page, told, python=texts.python), [])
+        self.assertEqual(wheelhouse(texts.folder, told), [])
+        why = "Python 3.9 is not in <3, which it asks for"
+        self.assertEqual(str(told[0]), f"{page}: files[0]: left out: foo-1.zip ({why})")
+        self.assertEqual(str(told[1]), f"{self.folder}: left out: a.txt (no wheel and no source archive)")
+
+    def test_of_bytes(self):
+        """What has a path of bytes is read as what has one of text."""
+        class Path:
+            def __init__(self, path):
+                self.path = path
+
+            def __fspath__(self):
+                return os.fsencode(self.path)
+
+        listed, page = self.write(a="foo\n"), self.folder / "foo.json"
+        page.write_text('{"name": "foo", "files": [{"filename": "foo-1.zip"}]}')
+        (self.folder / "foo-2.zip").touch()
+        for kind in (Path, os.fsencode):
+            self.assertEqual(read(kind(listed)), read(listed))
+            self.assertEqual(read_candidates(kind(page)), [("foo", "1")])
+            self.assertEqual((read_candidates(kind(self.folder)), wheelhouse(kind(self.folder))), ([("foo", "2")],) * 2)
+            self.assertEqual(read_candidates(kind(listed)), listed)
+
+
 class Pages(OfMetadata):
     def page(self, page):
         path = self.folder / "page.json"
@@ -458,7 +500,7 @@ class Pages(OfMetadata):
         path = self.page({"name": "foo", "files": [{"filename": it} for it in files]})
         self.assertEqual(read_candidates(path, tags=["py3-none-any", "a-b", "a0-b0"]), [("foo", "2")])
         self.assertEqual(read_candidates(path, tags=["a7-b0-c4999"]), [("foo", "1"), ("foo", "2")])
-        for tags in ("py3-none-any", enum.Enum("texts", {"tag": "py3-none-any"}, type=str)):
+        for tags in ("py3-none-any", enum.Enum("texts", {"tag": "py3-none-any"}, type=str), Tag("py3", "none", "any")):
             self.assertEqual(read_candidates(path, tags=tags), [("foo", "2")])
 
     def test_other_files(self):

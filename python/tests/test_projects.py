@@ -104,6 +104,13 @@ class Projects(OfToml):
             self.assertEqual(len(read(path).provided_extras), 300)
         self.assertLess(Counted.count, 3000)
 
+    def test_many_lines_of_an_extra(self):
+        """What may be put into one marker is put into that of each line."""
+        many = ", ".join(f"'a{it}'" for it in range(10_001))
+        listing = read(self.project(f"[project]\nname = 'app'\n[project.optional-dependencies]\nall = ['app[gui]']\ngui = [{many}]\n"))
+        self.assertEqual(listing.left_out, ())
+        self.assertEqual({it.text.partition(" ; ")[2] for it in listing.lines}, {"(extra == 'gui' or extra == 'all')"})
+
     def test_extras_that_name_too_many(self):
         """A chain of extras names each of those before it, which is told where they are more than a list may have."""
         entries = "".join(f"a{it} = ['app[a{it + 1}]', 'foo{it}']\n" for it in range(20))

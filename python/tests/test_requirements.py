@@ -1,6 +1,7 @@
 """Requirements, by PEP 508."""
 
 import copy
+import enum
 import pickle
 import unittest
 import weakref
@@ -200,6 +201,16 @@ class InLists(unittest.TestCase):
         it = Requirement("foo @ https://example.org/x ; os_name == 'nt'")
         it.url, it.specifier = None, SpecifierSet(">=1")
         self.assertTrue(fowlyore.same([it], ["foo>=1 ; os_name == 'nt'"]))
+
+    def test_texts_that_print_as_others(self):
+        """What counts of a member of an `Enum` that is a text is that text."""
+        texts = enum.Enum("texts", {"url": "https://e.org/x", "specifier": ">=1", "name": "b", "extra": "x"}, type=str)
+        requirement = Requirement("a")
+        requirement.name, requirement.extras, requirement.specifier = texts.name, {texts.extra}, texts.specifier
+        self.assertEqual((str(requirement), fowlyore.normal([requirement])), ("b[x]>=1", ["b[x]>=1"]))
+        requirement = Requirement("a")
+        requirement.url = texts.url
+        self.assertEqual((str(requirement), requirement._line()), ("a @ https://e.org/x", "a @ https://e.org/x"))
 
     def test_reading_parts_changes_nothing(self):
         text = "foo [a] >= 1.0 ; os_name == 'nt'"

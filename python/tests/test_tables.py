@@ -3,6 +3,7 @@
 import html.parser
 import io
 import re
+import textwrap
 import threading
 import time
 import unittest
@@ -12,7 +13,7 @@ from fowlyore import Row, check, progress
 from fowlyore.__main__ import main
 from fowlyore.explanations import explain
 from fowlyore.progress import Progress
-from fowlyore.tables import Grid, check_page, check_table, matrix_page, matrix_table
+from fowlyore.tables import Grid, _wrapped, check_page, check_table, matrix_page, matrix_table
 from tests.test_command import EXAMPLES, FIRST, OF_FIRST, run
 from tests.test_documents import PAGE
 from tests.test_files import ENVIRONMENT, WINDOWS, InFolder
@@ -95,6 +96,15 @@ class Matrices(unittest.TestCase):
         told = Grid.of([[]] * 4, environments).columns
         self.assertEqual([len({*told}), told[2], told[3]], [3, *["sys_platform win32, platform_version #1 SMP"] * 2])
 
+    def test_many_environments_and_values(self):
+        """Each value is looked at once, however many tell the environments apart."""
+        many = 700
+        names = [f"name{it:03}" for it in range(many)]
+        environments = [{name: int(at == number) for number, name in enumerate(names)} for at in range(many)]
+        (first, *_, last) = Grid.of([[]] * many, environments).columns
+        values = ["name000 1", *(f"{name} 0" for name in names[1:-1])]
+        self.assertEqual((first, last), (", ".join(values), ", ".join(f"{name} 0" for name in names[:-1])))
+
     def test_page(self):
         page = matrix_page(GRID, "a < b")
         found = Page(page)
@@ -146,6 +156,14 @@ class Checks(InFolder):
         self.assertEqual(" ".join(" ".join(lines[2:]).split()), " ".join(why[0].sentences))
         self.assertLessEqual(max(len(it) for it in lines[2:]), 60)
 
+    def test_long_words(self):
+        """They are broken as the module for texts breaks them, and at once."""
+        how = {"initial_indent": "    ", "subsequent_indent": "      ", "break_on_hyphens": False}
+        for text in ("a" * 300 + " bc", "a b " + "c" * 100 + " d" * 40 + "e" * 25, "f " + "g" * 24, "h" * 16 + " " + "i" * 17, "j-" * 50):
+            for width in (20, 30, 79):
+                self.assertEqual(_wrapped(text, width), textwrap.wrap(text, width, **how), (text, width))
+        self.assertEqual(len(_wrapped("a" * 12_000_002, 30)), 500_000)
+
     def test_terminal(self):
         """Colours and widths are a terminal's alone."""
         path = self.write(a="foo>=2\n")
@@ -186,6 +204,10 @@ class LongWork(unittest.TestCase):
 
         lines = "".join(rf"(\r\x1b\[Kfowlyore: reading: {it} of 7, \d+ s)+" for it in range(2))
         self.assertRegex(self.shown(work), rf"\A{lines}\r\x1b\[K\Z")
+
+    def test_what_is_no_character(self):
+        """A path may have in it what a terminal takes for more than characters."""
+        self.assertEqual(Progress("reading \x1b[2J\u202e").line(1), r"reading \u{1b}[2J\u{202e}: 1 s")
 
     def test_silence(self):
         def work(*_):

@@ -8,7 +8,7 @@ import sys
 import threading
 import unittest
 
-from fowlyore import InvalidVersion, Version, _native, parse
+from fowlyore import InvalidVersion, Requirement, Specifier, Version, _native, parse
 from fowlyore.version import is_prerelease, normalize_pre
 
 # In rising order (PEP 440, Summary of permitted suffixes and relative ordering).
@@ -122,6 +122,13 @@ class Made(unittest.TestCase):
                 with self.assertRaises(InvalidVersion, msg=part):
                     Version("3").__replace__(**{part: value})
 
+    def test_numbers_that_print_as_others(self):
+        """What counts of a member of an `Enum` that is a number is that number."""
+        two = enum.Enum("numbers", {"two": 2}, type=int).two
+        version = Version.from_parts(epoch=two, release=(1, two), pre=("b", two), post=two, dev=two)
+        self.assertEqual(str(version), "2!1.2b2.post2.dev2")
+        self.assertEqual(str(Version("3").__replace__(release=(two, True))), "2.1")
+
     def test_replaced(self):
         version = Version("1!2.3rc4.post5.dev6+x.7")
         rows = [
@@ -192,6 +199,23 @@ class Values(unittest.TestCase):
         self.assertIs(type(version._given), str)
         self.assertEqual((str(version), str(pickle.loads(pickle.dumps(version)))), ("1.5", "1.5"))
         self.assertEqual(str(Version.from_parts(release=(1,), local=texts.local)), "1+a")
+
+    def test_texts_with_bytes_of_their_own(self):
+        """What counts of a text are its characters, and what is no text is none, whatever bytes it gives."""
+        class Text(str):
+            def encode(self, *_):
+                return b"9"
+
+        class Other:
+            def encode(self, *_):
+                return b"9"
+
+        self.assertEqual(Version(Text("1")), Version("1"))
+        self.assertEqual(str(Specifier(Text(">=1"))), ">=1")
+        self.assertEqual(Requirement(Text("a ; os_name == 'nt'"))._parts.name, "a")
+        for kind in (Version, Specifier, Requirement):
+            with self.assertRaisesRegex(TypeError, "is read from a str, not from Other$"):
+                kind(Other())
 
     def test_made_once(self):
         """So that no version keeps a part of another one, and none that is kept by its hash changes."""
