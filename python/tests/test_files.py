@@ -136,7 +136,7 @@ class Plain(InFolder):
 
     def test_long_lines(self):
         """They take time linear in their length, whatever they are made of."""
-        many = 300_000
+        many = 100_000
         listing = read(self.write(a=f"--pre\nfoo/bar{' ' * many}baz\n"))
         self.assertEqual(len(listing.lines[0].text), many + 10)
         long = "a" * 8 * many
