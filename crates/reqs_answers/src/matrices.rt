@@ -39,11 +39,9 @@ use std::io::{Read, Write};
 /// The size of the output buffer, in bytes.
 const WAITING_BYTES: usize = 65_536;
 
-/// What a run is given besides its inputs and the interner.
+/// The options of a run.
 #[derive(Clone, Copy)]
-struct Request<'a> {
-    extras: &'a [&'a str],
-    vars: &'a Vars,
+struct Request {
     limit: u64,
     format: Format,
     bounds: Bounds,
@@ -143,8 +141,6 @@ pub fn matrix_within<L: Read, E: Read, C: Read, W: Write>(
     let mut environments = read_input(alloc, Input::Second, environments)?;
     let mut candidates = read_input(alloc, Input::Third, candidates)?;
     let request = Request {
-        extras,
-        vars,
         limit,
         format,
         bounds,
@@ -154,6 +150,8 @@ pub fn matrix_within<L: Read, E: Read, C: Read, W: Write>(
         &mut requirements,
         &mut environments,
         &mut candidates,
+        extras,
+        vars,
         request,
         interner,
     )?;
@@ -180,26 +178,27 @@ fn matrix_text(
     requirements: &mut Vec<u8>,
     environments: &mut Vec<u8>,
     candidates: &mut Vec<u8>,
-    request: Request<'_>,
+    extras: &[&str],
+    vars: &Vars,
+    request: Request,
     interner: &mut Interner,
 ) -> Result<Pieces, RunFault>
     requires { length interner.old.nodes ≤ request.bounds.nodes }
-    ensures { let texts = texts_of (environments_from Second) request.vars.now
-        (map (λ e. e.now) request.extras.now)
+    ensures { let texts = texts_of (environments_from Second) vars.now (map (λ e. e.now) extras.now)
         requirements.old.items environments.old.items candidates.old.items in
-        Bounded (λ text. AnswersAll (IsOfTexts request.vars.now First requirements.old.items)
+        Bounded (λ text. AnswersAll (IsOfTexts vars.now First requirements.old.items)
         request.format request.limit request.bounds.cases text texts)
         (length interner.new.nodes ≤ request.bounds.nodes)
-        (PassesIn request.bounds interner.new.nodes request.limit request.vars.now requirements.old.items
-        texts) result }
+        (PassesIn request.bounds interner.new.nodes request.limit vars.now requirements.old.items texts)
+        result }
 {
-    let extras = read_extras(alloc, request.extras)?;
+    let extras = read_extras(alloc, extras)?;
     let requirements = requirements_within(
         alloc,
         Input::First,
         requirements,
         interner,
-        request.vars,
+        vars,
         request.bounds.nodes,
     )?;
     matrix_behind(
@@ -221,7 +220,7 @@ fn matrix_behind(
     extras: &[ExtraName],
     environments: &mut Vec<u8>,
     candidates: &mut Vec<u8>,
-    request: Request<'_>,
+    request: Request,
 ) -> Result<Pieces, RunFault>
     requires { AreRead interner.old.nodes requirements }
     ensures { (vars : Variables) (said : List LineRecord) →
