@@ -30,7 +30,7 @@ LIBRARY = {"building.shared": "libreqs.so", "building.archive": "libreqs.a"}
 
 
 def version():
-    with open(os.path.join(figures.TOP, "crates", "reqs_command", "src", "asked.rt"), encoding="utf-8") as file:
+    with open(os.path.join(figures.TOP, "crates", "reqs_command", "src", "request.rt"), encoding="utf-8") as file:
         return f"reqs {VERSION.search(file.read())[1]}"
 
 

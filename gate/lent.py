@@ -6,7 +6,8 @@
 `Interner::conjunctions` counts what a caller asks for, so that a promise on how many there are binds all that a
 crate does. A call that isn't counted is public only since other crates of trees need it. Who makes a table of
 requirements gives them away, so that its answers come from the table; a copy of requirements, or a table of some
-that are lent, is for the calls on whole lists. LENT has such calls, and modules of them, each with the crate that has it and those that
+that are lent, is for the calls on whole lists; answers on parsed lists are for a command that restricts them first, and ends of
+the library's calls for those that assume a marker. LENT has such calls, and modules of them, each with the crate that has it and those that
 may name it; nobody may pass one on by `pub use`, and no other crate's source may name it. Nor may another import all of a crate that
 lends, or the crate itself, under its own or another name: its calls could be named there unseen. Fails too where one of
 those crates has no use for it. Comments, texts and clauses don't count. The last line is `N passed, M failed`, a crate
@@ -24,6 +25,7 @@ from crates import Crates
 
 BORROWERS = ("pep508_conjunctions", "pep508_cases", "pep508_requirement", "pep508_simplification")
 LENT = {
+    "pep440_version::lent": ("pep440_version", ("pep440_tests",)),
     "uncounted_conjunction": ("pep508_tree", BORROWERS),
     "root_child": ("pep508_evaluation", ("pep508_tree_ref",)),
     "root_child_count": ("pep508_evaluation", ("pep508_tree_ref",)),
@@ -35,6 +37,8 @@ LENT = {
     "package_count": ("reqtable_table", ("reqs_answers", "reqtable_tests")),
     "row_among": ("reqtable_table", ("reqs_rows",)),
     "reqtable_table::lent": ("reqtable_table", ("reqs_answers", "reqs_rows", "reqtable_tests")),
+    "reqs_lists::lent": ("reqs_lists", ("reqs_assuming",)),
+    "reqs_c_lists::lent": ("reqs_c_lists", ("reqs_c_assuming",)),
 }
 USE = re.compile(r"\b(?P<shown>pub )?use (?P<tree>[^;]+);")
 

@@ -46,7 +46,7 @@ extern "C" {
 enum reqs_status {
     REQS_ANSWERED = 0,
     REQS_DIFFERENT = 1, /* reqs_same: the lists don't require the same; reqs_covers: the first doesn't cover the
-                         * second; so for reqs_same_json and reqs_covers_json */
+                         * second; so for their calls with _where and _json */
     REQS_REFUSED = 2,   /* an argument is refused; out has the reason */
     REQS_MEMORY = 3     /* out of memory; length is 0 */
 };
@@ -59,7 +59,7 @@ typedef struct reqs_reply {
     size_t length;   /* of the whole text, in bytes */
     size_t line;     /* the number of the line at fault, from 1; 0 if there is none */
     size_t start;    /* the first byte at fault, in that line, or in the text if there is no line */
-    size_t len;      /* the number of bytes at fault; 0 if it is unknown */
+    size_t len;      /* the number of bytes at fault, 1 for what is missing at the end; 0 if it is unknown */
 } reqs_reply;
 
 /* No bound on what a call makes: a number of nodes, clauses or cases that none has. */
@@ -83,8 +83,10 @@ uint32_t reqs_abi(void);
  * the trees of all lines. A call with `clauses` writes markers as clauses with `or` between them, of which each
  * marker may have exponentially many: with more than `clauses` it is refused at the marker's line ("requirements:
  * line 3: more than 100000 clauses"), in reqs_same and reqs_covers with input 0 ("more than 100000 clauses for
- * foo"). A call with `cases` makes the cases of each package, at most `limit`: where all have more than `cases`
- * together, it is refused ("requirements: more than 5000 cases in all"). REQS_NO_BOUND is no bound. A list that
+ * foo"). A call with `cases` makes the cases of packages, at most `limit` of each: where it makes more than `cases`
+ * of a list, it is refused ("requirements: more than 5000 cases in all"). reqs_matrix makes those of all packages;
+ * reqs_same and reqs_covers none of lines that are equal in both lists, reqs_conflicts none of lines with a common
+ * version, where these are so few that all sets of them are within `limit`. REQS_NO_BOUND is no bound. A list that
  * can't be read is refused for that before it is for a bound. */
 
 /* What `reqs check` writes: for each required package, the highest candidate that is accepted. */
@@ -166,6 +168,53 @@ reqs_reply reqs_conflicts_json(const uint8_t *requirements, size_t requirements_
 /* {"requirements":[..]}: the lines of the list in its normal form. */
 reqs_reply reqs_normal_json(const uint8_t *requirements, size_t requirements_len,
                             size_t nodes, size_t clauses, uint8_t *out, size_t out_len);
+
+/* ---- lists where a marker holds, as the commands answer with `--assume`: only the environments and extras count
+ * for which the marker `assumption` does (PEP 508, "Environment Markers"), as if each line's marker were joined
+ * with it by `and`. So the marker of a difference holds nowhere else, and a marker that always holds changes
+ * nothing.
+ *
+ * The assumption is read before the lists. A text that is not a marker is refused as by reqs_marker_check, with the
+ * number that follows those of the lists as input: 3, and 2 in reqs_conflicts_where. Its tree counts among `nodes`
+ * too. */
+
+/* What reqs_same answers where the assumption holds. */
+reqs_reply reqs_same_where(const uint8_t *left, size_t left_len,
+                           const uint8_t *right, size_t right_len,
+                           const uint8_t *assumption, size_t assumption_len,
+                           uint64_t limit, size_t nodes, size_t clauses, uint64_t cases,
+                           uint8_t *out, size_t out_len);
+
+/* What reqs_covers answers where the assumption holds. */
+reqs_reply reqs_covers_where(const uint8_t *lock, size_t lock_len,
+                             const uint8_t *requirements, size_t requirements_len,
+                             const uint8_t *assumption, size_t assumption_len,
+                             uint64_t limit, size_t nodes, size_t clauses, uint64_t cases,
+                             uint8_t *out, size_t out_len);
+
+/* What reqs_conflicts answers where the assumption holds: contradictions between lines that apply together there. */
+reqs_reply reqs_conflicts_where(const uint8_t *requirements, size_t requirements_len,
+                                const uint8_t *assumption, size_t assumption_len,
+                                uint64_t limit, size_t nodes, uint64_t cases, uint8_t *out, size_t out_len);
+
+/* The object of reqs_same_json where the assumption holds. */
+reqs_reply reqs_same_where_json(const uint8_t *left, size_t left_len,
+                                const uint8_t *right, size_t right_len,
+                                const uint8_t *assumption, size_t assumption_len,
+                                uint64_t limit, size_t nodes, size_t clauses, uint64_t cases,
+                                uint8_t *out, size_t out_len);
+
+/* The object of reqs_covers_json where the assumption holds. */
+reqs_reply reqs_covers_where_json(const uint8_t *lock, size_t lock_len,
+                                  const uint8_t *requirements, size_t requirements_len,
+                                  const uint8_t *assumption, size_t assumption_len,
+                                  uint64_t limit, size_t nodes, size_t clauses, uint64_t cases,
+                                  uint8_t *out, size_t out_len);
+
+/* The object of reqs_conflicts_json where the assumption holds. */
+reqs_reply reqs_conflicts_where_json(const uint8_t *requirements, size_t requirements_len,
+                                     const uint8_t *assumption, size_t assumption_len,
+                                     uint64_t limit, size_t nodes, uint64_t cases, uint8_t *out, size_t out_len);
 
 /* ---- versions and specifiers (PEP 440) */
 

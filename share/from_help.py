@@ -15,6 +15,7 @@ import sys
 
 ENTRY = re.compile(r" {2,6}(\S.*?)(?: {2,}(\S.*))?")
 OPTION = re.compile(r"-[A-Za-z]|--[a-z][a-z-]*")
+VALUES = re.compile(r"\[possible values: (.*?)\]")
 
 
 class Help:
@@ -41,8 +42,9 @@ class Help:
         return " ".join(self.about)
 
     def options(self):
-        """The spellings of each option, and what is said of it."""
-        return [(OPTION.findall(term.partition("<")[0]), said) for term, said in self.parts.get("Options", [])]
+        """The spellings of each option, what its value is called if it has one, and what is said of it."""
+        parts = [(*term.partition("<")[::2], said) for term, said in self.parts.get("Options", [])]
+        return [(OPTION.findall(spelled), value.rstrip(">"), said) for spelled, value, said in parts]
 
     def arguments(self):
         """The name of each argument, whether it may be given many times, and what is said of it."""
@@ -104,7 +106,7 @@ def bash(program):
     yield '    [ "$COMP_CWORD" -lt 2 ] || command=${COMP_WORDS[1]}'
     yield "    case $command in"
     for command, it in spelled.items():
-        words = " ".join(spelling for spellings, _ in it.options() for spelling in spellings)
+        words = " ".join(spelling for spellings, *_ in it.options() for spelling in spellings)
         yield f"        {shlex.quote(command)}) options={shlex.quote(words)} ;;"
     yield "    esac"
     yield f'    [ -n "$command" ] && [ "$command" != help ] || commands={shlex.quote(" ".join(commands))}'
@@ -121,10 +123,19 @@ def zsh_said(text):
     return re.sub(r"([\[\]:\\])", r"\\\1", text)
 
 
+def values_of(said):
+    """The values that an option may have, with blanks between, where the help names them."""
+    found = VALUES.search(said)
+    return found[1].replace(",", "") if found else ""
+
+
 def zsh_options(it):
-    for spellings, said in it.options():
+    for spellings, value, said in it.options():
+        # (without its value the option would be read as one that has none, and the value as an argument)
+        action = f":{value}:({values_of(said)})" if values_of(said) else f":{value}: " if value else ""
         for spelling in spellings:
-            yield shlex.quote(f"({' '.join(spellings)}){spelling}[{zsh_said(said)}]")
+            mark = "=" if value and spelling.startswith("--") else ""
+            yield shlex.quote(f"({' '.join(spellings)}){spelling}{mark}[{zsh_said(said)}]{action}")
 
 
 def zsh(program):
@@ -144,8 +155,10 @@ def zsh(program):
 
 
 def fish_options(it):
-    for spellings, said in it.options():
+    for spellings, value, said in it.options():
         flags = [f"-s {one[1:]}" if len(one) == 2 else f"-l {one[2:]}" for one in spellings]
+        flags += ["-x"] if value else []
+        flags += [f"-a {shlex.quote(values_of(said))}"] if values_of(said) else []
         yield f"{' '.join(flags)} -d {shlex.quote(said)}"
 
 

@@ -147,7 +147,8 @@ def call_of(kind, run, environment):
     """A run's call and its texts."""
     if kind == "lists":
         call = run["command"]
-        return call, [run[it] for it in NAMES[call]]
+        lists = [run[it] for it in NAMES[call]]
+        return (f"{call} where", [*lists, run["assume"]]) if "assume" in run else (call, lists)
     call, where = "check", run.get("environment", environment)
     if kind == "matrix":
         call = kind
@@ -253,6 +254,11 @@ FAULTS = [
     ("subset", [AT_END, ">=1"], (1, 0, 0, 0), "a version number can't be raised"),
     ("subset", [">=1", ">1," + AT_END], (2, 0, 0, 0), "a version number can't be raised"),
     ("empty", [AT_END], (1, 0, 0, 0), "a version number can't be raised"), ("empty", ["1"], (1, 0, 0, 1), None),
+    ("same where", ["-r x", "b", "os_name == 'nt' and bad == 'x'"], (3, 0, 20, 3), None),
+    ("covers where", ["-r x", "b", "os_name == 'nt' and bad == 'x'"], (3, 0, 20, 3), None),
+    ("conflicts where", ["-r x", "os_name == 'nt' and bad == 'x'"], (2, 0, 20, 3), None),
+    ("same where", ["a @ https://e.org/a", "b", "os_name == 'nt'"], (1, 1, 0, 0), "left: line 1: URL"),
+    ("covers where", ["b", "a @ https://e.org/a", "os_name == 'nt'"], (2, 1, 0, 0), "requirements: line 1: URL"),
 ]
 # Calls that make trees, with texts of which they make some, and whether they write a marker.
 SOME = "os_name == 'a' and extra == 'x' or os_name == 'b' and extra == 'y'"
@@ -268,7 +274,10 @@ BOUNDED_LISTS = [
     (f"{call}{form}", texts, kinds, status)
     for call, texts, kinds, status in (
         ("matrix", [LINES, "[]", "", ""], ("nodes", "cases"), 0), ("same", [LINES, OTHERS], ("nodes", "clauses", "cases"), 1),
-        ("covers", [OTHERS, LINES], ("nodes", "clauses", "cases"), 1), ("conflicts", [LINES], ("nodes", "cases"), 0), ("normal", [LINES], ("nodes", "clauses"), 0))
+        ("covers", [OTHERS, LINES], ("nodes", "clauses", "cases"), 1), ("conflicts", [LINES], ("nodes", "cases"), 0), ("normal", [LINES], ("nodes", "clauses"), 0),
+        ("same where", [LINES, OTHERS, "extra == 'x'"], ("nodes", "clauses", "cases"), 1),
+        ("covers where", [OTHERS, LINES, "extra == 'x'"], ("nodes", "clauses", "cases"), 1),
+        ("conflicts where", [LINES, "extra == 'x'"], ("nodes", "cases"), 0))
     for form in ("", " json")
 ]
 # The bounds by which the other faces call, and markers that are beyond them: with 2^30 nodes and more, and with 2^30 clauses.
@@ -311,7 +320,7 @@ def text_told(call, reply):
     try:
         answer = json.loads(reply.text())
         is_line = objects.line_of(answer).encode() == reply.text()
-        return objects.text_of(call, answer).encode() if is_line else None
+        return objects.text_of(call.removesuffix(" where"), answer).encode() if is_line else None
     except (ValueError, KeyError, TypeError, AssertionError):
         return None
 
@@ -336,6 +345,10 @@ def answers(program):
         reply = made(program, [(call, [b"ab\xffc"])])[0]
         wants(f"{call} of bytes that are no text", (reply.status, reply.place(), reply.text())
               == (REFUSED, (1, 0, 2, 0), b"not UTF-8 at byte 2"), reply)
+    for call, texts in (("same where", 3), ("covers where", 3), ("conflicts where", 2)):
+        reply = made(program, [(call, [b"\xff"] * (texts - 1) + [b"ab\xffc"])])[0]
+        wants(f"{call}: an assumption that is no text", (reply.status, reply.place(), reply.text())
+              == (REFUSED, (texts, 0, 2, 0), b"not UTF-8 at byte 2"), reply)
     wants("the interface's number", made(program, [("abi", [])])[0].number == INTERFACE)
 
 
@@ -472,18 +485,42 @@ def batches(program):
         wants(f"{message.decode()}", (reply.status, reply.input, reply.text()) == (REFUSED, number, message), reply)
 
 
+def said_of(run, call):
+    """What the library says where a run is refused."""
+    said = run["stderr"].encode("utf-8", "surrogateescape").removeprefix(b"reqs: ").removesuffix(b"\n")
+    path, colon, rest = said.partition(b": ")
+    if colon and path == b"assumption":
+        return rest.split(b"\n")[1]
+    names = NAMES[call.removesuffix(" where")]
+    return names[PATHS[path.decode()]].encode() + colon + rest if colon and path.decode() in PATHS else said
+
+
 def runs(program):
     """The stored runs: their answers, and what is said of refusals but for the inputs' names."""
     stored = [*of_runs()]
     for lot in in_lots(stored):
         for (run, call), reply in zip(lot, made(program, [it for _, it in lot])):
-            said = run["stderr"].encode("utf-8", "surrogateescape").removeprefix(b"reqs: ").removesuffix(b"\n")
-            names = NAMES[call[0]]
-            path, colon, rest = said.partition(b": ")
-            if colon and path.decode() in PATHS:
-                said = names[PATHS[path.decode()]].encode() + colon + rest
-            text = run["stdout"].encode("utf-8", "surrogateescape") if reply.status != REFUSED else said
+            text = run["stdout"].encode("utf-8", "surrogateescape") if reply.status != REFUSED else said_of(run, call[0])
             wants(f"run {run['name']}: {call[0]}", (reply.status, reply.text()) == (run["status"], text), reply)
+
+
+# An assumption that always holds, as each of no meaningful comparison, and one that never does; and what is answered then.
+ALWAYS, NEVER = b"'x' == 'y'", b"os_name == 'a' and os_name == 'b'"
+NOWHERE = {"same": b"yes\n", "covers": b"yes\n", "conflicts": b""}
+
+
+def assumed(program):
+    """The stored runs on lists: what always holds changes nothing, and where nothing holds nothing is required."""
+    stored = [(run, call) for run, call in of_runs() if call[0] in NOWHERE]
+    for lot in in_lots(stored):
+        plain = made(program, [call for _, call in lot])
+        where, nowhere = (made(program, [(f"{call} where", [*texts, marker], *more) for _, (call, texts, *more) in lot])
+                          for marker in (ALWAYS, NEVER))
+        for (run, (call, *_)), one, other, none in zip(lot, plain, where, nowhere):
+            told = other.status, other.place(), other.text()
+            wants(f"run {run['name']}: {call} where all holds", told == (one.status, one.place(), one.text()), other)
+            is_so = none.status == REFUSED or (none.status, none.text()) == (ANSWERED, NOWHERE[call])
+            wants(f"run {run['name']}: {call} where nothing holds", is_so, none)
 
 
 def runs_as_json(program):
@@ -508,6 +545,11 @@ def kinds():
         ("matrix json", [lists[0], many, lists[2], b""]), ("same json", [b"a\n", b"b>1; os_name == 'nt'\n"]),
         ("covers json", [b"a\n", b"b>1; os_name == 'nt'\n"]),
         ("conflicts json", [b"a<1\na>2\n"]), ("normal json", [b"A >= 1.0 ; os_name=='nt'\n"]), ("normal json", [b"a @ b"]),
+        ("same where", [b"a\n", b"b>1\n", b"os_name == 'nt'"]), ("same where", [b"a\n", b"b\n", b"os_name"]),
+        ("covers where", [b"a\n", b"b>1; os_name == 'nt'\n", b"extra == 'e'"]),
+        ("conflicts where", [b"a<1\na>2\n", b"os_name == 'nt'"]), ("conflicts where", [b"a\n", b"os_name =="]),
+        ("same where json", [b"a\n", b"b>1\n", b"os_name == 'nt'"]), ("covers where json", [b"a\n", b"b>1\n", b"extra == 'e'"]),
+        ("conflicts where json", [b"a<1\na>2\n", b"os_name == 'nt'"]),
         ("version", [b"1.0RC1.post2.dev3+a.b"]), ("version", [b"1.0 x"]), ("key", [b"1!70000.2.3rc1+ubuntu.1"]),
         ("specifiers", [b">=1.0,<2,!=1.5.*"]), ("specifiers", [b">=1.0,2"]), ("take", [b">=1.0,===1.5", b"1.5\n2\nx\n"]),
         ("requirement", [b"a[b,c] >= 1; os_name == 'nt' or extra == 'e'"]),
@@ -648,6 +690,7 @@ def main(words):
     batches(shared)
     runs(shared)
     runs_as_json(shared)
+    assumed(shared)
     rooms(shared)
     documented()
     refusals(shared, refuse)

@@ -2,8 +2,9 @@
 
 import struct
 
-CALLS = ("check", "matrix", "same", "covers", "conflicts", "normal", "check json", "matrix json", "same json", "covers json",
-         "conflicts json", "normal json", "version", "key", "order", "specifiers", "take", "ranges disjoint", "subset", "empty",
+CALLS = ("check", "matrix", "same", "covers", "conflicts", "normal", "same where", "covers where", "conflicts where",
+         "check json", "matrix json", "same json", "covers json", "conflicts json", "normal json", "same where json", "covers where json",
+         "conflicts where json", "version", "key", "order", "specifiers", "take", "ranges disjoint", "subset", "empty",
          "requirement", "checked", "marker", "marker key", "truth", "disjoint", "implies", "negated", "python", "extras", "hold", "abi")
 
 

@@ -602,6 +602,12 @@ run same R bytes
 wants "a right list that isn't UTF-8" 2 "" "reqs: bytes: not UTF-8 at byte 3$n"
 run conflicts absent
 wants "a list that doesn't open, for conflicts" 3 "" "reqs: absent: read fault$n"
+bad="Expected a quoted string or a valid marker name, found \`bad\`"
+run conflicts absent --assume bad
+wants "an assumption that is no marker, before a list that doesn't open" 2 "" \
+    "reqs: assumption: line 1, byte 0, length 3${n}$bad${n}bad${n}^^^$n"
+run conflicts absent --assume bad --format json
+wants "an assumption that is no marker, as an object" 2 "" "$(object assumption 3 1 "$bad"'\nbad\n^^^' null 0)$n"
 run normal absent
 wants "a list that doesn't open, for normal" 3 "" "reqs: absent: read fault$n"
 run check bytes E absent
@@ -838,6 +844,19 @@ run same R R C
 wants "same with three files" 2 "" SOMETHING
 run conflicts R R
 wants "conflicts with two lists" 2 "" SOMETHING
+for words in "check R E C" "matrix R M C" "normal R"; do
+    # shellcheck disable=SC2086
+    run $words --assume "os_name == 'a'"
+    wants "an assumption for ${words%% *}" 2 "" SOMETHING
+done
+run conflicts R --assume
+wants "an assumption without a marker" 2 "" SOMETHING
+run conflicts R --assume "os_name == 'a'" --assume "os_name == 'b'"
+wants "two assumptions" 2 "" SOMETHING
+run same R R --assume ''
+wants "an empty assumption" 2 "" SOMETHING
+run covers R R --assume "python_version <= '3.18446744073709551615'"
+wants "an assumption with a number that can't be raised" 2 "" SOMETHING
 run normal
 wants "normal without a list" 2 "" SOMETHING
 run same R R --limit 1000001

@@ -148,6 +148,11 @@ printf '%s\n' look:Looks -q --quiet-too 'No word\: at all' PLACE Where --far Far
 holds "the zsh completion of another program" has_words made/_other cat words
 printf '%s\n' look Looks '-s q' '-l quiet-too' 'No word: at all' '-l far' Far >words
 holds "the fish completion of another program" has_words made/other.fish cat words
+holds "zsh takes the word behind an option for its value" grep -qF -- "--quiet-too=[No word\\: at all]:HOW: '" made/_other
+holds "zsh takes no word behind an option without a value" grep -qF -- "--far[Far]'" made/_other
+holds "fish takes the word behind an option for its value" grep -qxF -- "complete -c other -n __fish_use_subcommand -s q -l quiet-too -x -d 'No word: at all'" made/other.fish
+holds "zsh has the values of an option" grep -qF -- ":FORMAT:(text json)'" "$prefix/share/zsh/site-functions/_reqs"
+holds "fish has the values of an option" grep -qF -- "-l format -x -a 'text json' " "$prefix/share/fish/vendor_completions.d/reqs.fish"
 printf '#!/bin/sh\nexit 1\n' >broken
 chmod +x broken
 python3 "$top/share/from_help.py" broken made 2>err
@@ -164,7 +169,7 @@ completed() {
 }
 holds "bash completes a command" [ "$(completed reqs ch)" = "check " ]
 holds "bash completes an option" [ "$(completed reqs --v)" = "--version " ]
-holds "bash completes a command's option" [ "$(completed reqs check --)" = "--format --help " ]
+holds "bash completes a command's option" [ "$(completed reqs check --)" = "--strict --format --help " ]
 holds "bash completes an option of matrix" [ "$(completed reqs matrix --l)" = "--limit " ]
 holds "bash leaves files to the shell" [ "$(completed reqs check R)" = " " ]
 

@@ -65,7 +65,9 @@ def object_of_fault(text):
     place = re.match(r"(?P<path>[^:\n]*): line (?P<line>\d+), byte (?P<start>\d+), length (?P<length>\d+)\n", text)
     if place:
         numbers = {name: int(place[name]) for name in ("line", "start", "length")}
-        return {**told, **numbers, "kind": "requirement", "path": place["path"], "message": text[place.end():]}
+        # (no run has a file of that name)
+        kind, path = ("assumption", None) if place["path"] == "assumption" else ("requirement", place["path"])
+        return {**told, **numbers, "kind": kind, "path": path, "message": text[place.end():]}
     place = re.match(r"(?P<path>[^:\n]*): line (?P<line>\d+): ", text)
     if place:
         message = text[place.end():]
@@ -136,14 +138,15 @@ def faults_of(command, wanted, got):
     ended, out, err = (it if isinstance(it, int) else it.decode("utf-8") for it in got)
     if ended != status:
         return [f"status is {ended}, not {status}"]
-    line, other = (err, out) if status > 1 else (out, err)
+    is_refused = status in (2, 3)
+    line, other = (err, out) if is_refused else (out, err)
     if other:
         return [f"the other output is {other!r}"]
     try:
         answer = json.loads(line)
         if line != line_of(answer):
             return [f"the object is not as it is written: {line!r}"]
-        if status > 1:
+        if is_refused:
             told, wished = answer, {"error": object_of_fault(said)}
         else:
             told, wished = text_of(command, answer), text

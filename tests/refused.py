@@ -280,6 +280,12 @@ def commands_on_lists(room):
         2, b"", b"reqs: more than 0 clauses for foo-bar\n")
     yield "covers, a URL:", ["covers", "URL", "LEFT"], room, (2, b"", b"reqs: URL: line 1: URL\n")
     yield "conflicts:", ["conflicts", "APART"], room, (0, b"bar 2 pre\nfoo 1,3\n", b"")
+    here = ["--assume", "os_name == 'nt'"]
+    yield "same, assuming:", ["same", "APART", "RIGHT", *here], room, (1, b"no\nbar\nos_name == 'nt'\n", b"")
+    yield "covers, assuming:", ["covers", "RIGHT", "APART", *here], room, (1, b"no\nbar\nos_name == 'nt'\n2\n", b"")
+    yield "conflicts, assuming:", ["conflicts", "APART", *here], room, (0, b"bar 2 pre\nfoo 1,3\n", b"")
+    yield "an assumption that is no marker:", ["conflicts", "APART", "--assume", "bad"], room, (
+        2, b"", b"reqs: assumption: line 1, byte 0, length 3\nExpected a quoted string or a valid marker name, found `bad`\nbad\n^^^\n")
     yield "conflicts, too many cases:", ["conflicts", "APART", "--limit", "1"], room, (
         2, b"", b"reqs: APART: more than 1 cases for foo\n")
     yield "conflicts, too many cases in all:", ["conflicts", "APART", "--cases", "2"], room, (

@@ -3,7 +3,8 @@
 
     runs.py PROGRAM
 
-Each run has a folder of its own with the files that it names, and the program is started there. What `check`
+Each run has a folder of its own with the files that it names, and the program is started there. Those of `check`,
+`matrix` and `conflicts` are started with `--strict` too. What `check`
 answers `matrix` is asked too, for its environment twice; where `same` says yes it is asked with its lists exchanged
 too, and `covers` is asked with its lists both ways. A line is printed for each run that differs; the last line is `runs: N passed, M failed`. tests/least.txt says how
 many runs there are at least.
@@ -17,8 +18,10 @@ import tempfile
 
 # A program that hasn't ended after so many seconds never does: machines may be slow, and have other work.
 HANGS = 600
-# The options that a run may name, each with its number.
-OPTIONS = ("limit", "cases", "nodes", "clauses")
+# The options that a run may name, each with its number or text.
+OPTIONS = ("assume", "limit", "cases", "nodes", "clauses")
+# The status after `--strict` of an answer that has a row `none` or a conflict.
+UNSATISFIED = 4
 
 
 def to_bytes(text):
@@ -54,7 +57,24 @@ def differences(program, words, texts, wanted):
     return [f"{what} is {one!r}, not {other!r}" for what, one, other in told if one != other]
 
 
+def strictly(name, words, texts, wanted):
+    """A run with `--strict`: it writes the same, and an answer ends with the status by what it has. A conflict is a line, and a
+    row is `none` where its line ends so; the names of packages have no space."""
+    status, out, err = wanted
+    if status == 0 and (out if words[0] == "conflicts" else b" none\n" in out):
+        status = UNSATISFIED
+    return f"{name}, strictly", [*words, "--strict"], texts, (status, out, err)
+
+
 def runs_of(stored):
+    """Each run, and those of `check`, `matrix` and `conflicts` with `--strict` too."""
+    for run in plain_runs_of(stored):
+        yield run
+        if run[1][0] in ("check", "matrix", "conflicts"):
+            yield strictly(*run)
+
+
+def plain_runs_of(stored):
     """Each run: its name, its words, the texts of its files, and how it is to end."""
     for run in stored["runs"] + stored["worked"]:
         name, extras = run["name"], run.get("extras", [])

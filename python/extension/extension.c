@@ -575,12 +575,21 @@ static PyObject *set_iter(PyObject *self) {
     return found;
 }
 
+/* The text of a set's member, also of one of a class that prints something else. */
+static PyObject *member_text(PyObject *member) {
+    if (PyType_GetSlot(Py_TYPE(member), Py_tp_str) == (void *)specifier_str) return specifier_str(member);
+    PyObject *bytes = PyObject_GetAttrString(member, "_bytes"), *text = NULL;
+    if (bytes) text = PyUnicode_FromEncodedObject(bytes, "utf-8", "strict");
+    Py_XDECREF(bytes);
+    return text;
+}
+
 /* The texts of a set's members with commas between them. */
 static PyObject *joined(PyObject *members) {
     PyObject *list = PySequence_List(members), *comma = PyUnicode_FromString(","), *text = NULL;
     Py_ssize_t count = list && comma ? PyList_Size(list) : -1, done = 0;
     for (; done < count; done++) {
-        PyObject *each = PyObject_Str(PyList_GetItem(list, done));
+        PyObject *each = member_text(PyList_GetItem(list, done));
         if (!each || PyList_SetItem(list, done, each)) break;
     }
     if (done == count) text = PyUnicode_Join(comma, list);

@@ -117,11 +117,11 @@ def asked(words: argparse.Namespace) -> Listing:
 
 
 def show(*words: object, sep: str = "\n") -> None:
-    """Prints a part of the answer."""
+    """Prints a part of the answer, and no line of nothing."""
     if sys.stdout is None:
         raise OSError(f"{OUTPUT} is closed")
     with of_stream(OUTPUT):
-        print(*words, sep=sep)
+        print(*words, sep=sep, end="\n" if words else "")
 
 
 def flush_output() -> None:

@@ -1,4 +1,4 @@
-"""Properties that are computed on first use, and answers that are kept by what was asked."""
+"""Properties that are computed on first use, answers that are kept by what was asked, and what copies have."""
 
 from typing import Any, Callable, Dict, Generic, Optional, TypeVar, Union, overload
 
@@ -21,6 +21,20 @@ def keep(kept: Dict[Any, Any], asked: Any, answer: Any, most: int, size: int) ->
     if len(kept) >= most:
         kept.clear()
     kept[asked] = answer
+
+
+def of_its_own(value: object) -> Optional[Dict[str, Any]]:
+    """What was set on a value of a class below one of this package, which a copy of it has too; None where nothing was.
+
+    >>> class Circle:
+    ...     pass
+    >>> circle = Circle()
+    >>> of_its_own(circle)
+    >>> circle.area = 3.0
+    >>> of_its_own(circle)
+    {'area': 3.0}
+    """
+    return getattr(value, "__dict__", None) or None
 
 
 class cached_property(Generic[Value]):

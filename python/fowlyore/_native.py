@@ -223,6 +223,19 @@ def _call(
     return made if long is None else _interruptible(made, long)
 
 
+def _call_if_there(name: str, texts: int, numbers: int, long: int) -> Callable[..., bytes]:
+    """A function that a library of this interface may lack, since it is younger. Without it each call raises `ImportError`."""
+    try:
+        return _call(name, texts, numbers, long=long)
+    except ImportError as error:
+        why = str(error)
+
+    def lacking(*texts: bytes, **words: Any) -> bytes:
+        raise ImportError(why, name="fowlyore", path=path())
+
+    return lacking
+
+
 def _interruptible(call: Callable[..., bytes], long: int) -> Callable[..., bytes]:
     """A call that on long texts is made in a thread of its own where this is the main thread. This thread waits for it, and
     meanwhile Python's handlers of signals run here: one that raises, as for Ctrl-C does `KeyboardInterrupt`, ends the
@@ -335,6 +348,9 @@ _same = _call("reqs_same", 2, numbers=4, long=LONG_MARKERS)
 _covers = _call("reqs_covers", 2, numbers=4, long=LONG_MARKERS)
 _conflicts = _call("reqs_conflicts", 1, numbers=3, long=LONG_MARKERS)
 _normal = _call("reqs_normal", 1, numbers=2, long=LONG_MARKERS)
+_same_where = _call_if_there("reqs_same_where", 3, numbers=4, long=LONG_MARKERS)
+_covers_where = _call_if_there("reqs_covers_where", 3, numbers=4, long=LONG_MARKERS)
+_conflicts_where = _call_if_there("reqs_conflicts_where", 2, numbers=3, long=LONG_MARKERS)
 
 
 def lines_of(answer: str) -> List[str]:
@@ -519,3 +535,26 @@ def conflicts(requirements: bytes, limit: int, nodes: int, cases: int) -> str:
 def normal(requirements: bytes, nodes: int, clauses: int) -> str:
     """What `reqs normal` prints."""
     return _normal(requirements, numbers=(nodes, clauses), size=_size_for(requirements)).decode()
+
+
+# The same where the marker `assumption` holds.
+
+
+def same_where(
+    left: bytes, right: bytes, assumption: bytes, limit: int, nodes: int, clauses: int, cases: int
+) -> str:
+    """What `reqs same` prints."""
+    return _same_where(left, right, assumption, numbers=(limit, nodes, clauses, cases)).decode()
+
+
+def covers_where(
+    lock: bytes, requirements: bytes, assumption: bytes, limit: int, nodes: int, clauses: int, cases: int
+) -> str:
+    """What `reqs covers` prints."""
+    numbers = limit, nodes, clauses, cases
+    return _covers_where(lock, requirements, assumption, numbers=numbers, size=_size_for(requirements)).decode()
+
+
+def conflicts_where(requirements: bytes, assumption: bytes, limit: int, nodes: int, cases: int) -> str:
+    """What `reqs conflicts` prints."""
+    return _conflicts_where(requirements, assumption, numbers=(limit, nodes, cases), size=_size_for(requirements)).decode()

@@ -63,13 +63,15 @@ def of_lock(marker: str, groups: FrozenSet[str]) -> Tuple[str, str]:
             continue
         front, length = marker[at : found.start()], len(found[0])
         is_in = found["sign"] == "in"
+        # (a quote may stand at once behind a word)
+        judged += front, " " if front[-1:].isalnum() else ""
         if found["set"] == "extras":
-            sign, blank = "==" if is_in else "!=", " " if front[-1:].isalnum() else ""
+            sign = "==" if is_in else "!="
             placed += front, f" extra{sign}{found['name']} ".ljust(length)
-            judged += front, f"{blank}extra {sign} {found['name']}"
+            judged.append(f"extra {sign} {found['name']}")
         else:
             placed += front, f" {found['name']} in os_name ".ljust(length)
-            judged += front, ALWAYS if (normal_name(found["name"][1:-1]) in groups) == is_in else NEVER
+            judged.append(ALWAYS if (normal_name(found["name"][1:-1]) in groups) == is_in else NEVER)
         at = found.end()
     return "".join([*placed, marker[at:]]), "".join([*judged, marker[at:]])
 

@@ -16,7 +16,7 @@ from typing import NoReturn, Sequence, Union
 
 from . import core_metadata, projects
 from .listings import Listing, Place
-from .lists import read_whole, unread
+from .lists import PathLike, read_whole, unread
 from .pip_files import read_list, read_pip
 
 __all__ = ["read", "read_text"]
@@ -27,7 +27,7 @@ STANDARD_INPUT = "-"
 
 
 def read(
-    path: "Union[str, os.PathLike[str], importlib.metadata.Distribution]", *, groups: Union[str, Sequence[str]] = ()
+    path: Union[str, PathLike, importlib.metadata.Distribution], *, groups: Union[str, Sequence[str]] = ()
 ) -> Listing:
     """The list that a file has, for the functions on lists; or what an installed distribution requires.
     `groups` are the dependency groups of a `pyproject.toml` whose lines are taken in too, or those of a lock

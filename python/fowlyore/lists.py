@@ -12,7 +12,7 @@ import os
 import re
 from dataclasses import dataclass, field
 from typing import (
-    Any, BinaryIO, Callable, Iterable, Iterator, List, Mapping, Optional, Sequence, Set, Tuple, Type, TypeVar, Union,
+    TYPE_CHECKING, Any, BinaryIO, Callable, Iterable, Iterator, List, Mapping, Optional, Sequence, Set, Tuple, Type, TypeVar, Union,
 )  # fmt: skip
 
 from . import _native
@@ -20,7 +20,7 @@ from ._bounds import USUAL, Most, most_cases, most_clauses, most_nodes
 from .errors import Refused, characters, columns, told
 from .distributions import installed
 from .listings import COMMENT, ENVIRONMENTS, LONGEST, REQUIRES_PYTHON, Listing, Located, Place, TooLong
-from .markers import TooManyClauses, TooManyNodes, completed, environment_json, of_mapping
+from .markers import Marker, TooManyClauses, TooManyNodes, completed, environment_json, of_mapping
 from .requirements import InvalidRequirement, Requirement
 from .specifiers import SpecifierSet
 from .urls import warn_of_marker_in
@@ -35,18 +35,17 @@ __all__ = [
 LIMIT, GREATEST_LIMIT = 4096, 1_000_000
 # The bytes of the longest file that is read, of which the library gets something else.
 LONGEST_FILE = 268_435_456
-Requirements = Union[str, bytes, "os.PathLike[str]", Listing, Iterable[Union[str, Requirement]]]
-Environment = Union[None, str, bytes, "os.PathLike[str]", Mapping[str, str]]
-Environments = Union[str, bytes, "os.PathLike[str]", Iterable[Mapping[str, str]]]
-Candidates = Union[
-    None,
-    str,
-    bytes,
-    "os.PathLike[str]",
-    Mapping[str, Union[str, Version, Iterable[Union[str, Version]]]],
-    Iterable[Tuple[str, Union[str, Version]]],
-]
+if TYPE_CHECKING:
+    PathLike = os.PathLike[str]
+else:
+    PathLike = os.PathLike  # (which has no parts in Python 3.8)
+Requirements = Union[str, bytes, PathLike, Listing, Iterable[Union[str, Requirement]]]
+Environment = Union[None, str, bytes, PathLike, Mapping[str, str]]
+Environments = Union[str, bytes, PathLike, Iterable[Mapping[str, str]]]
+Several = Mapping[str, Union[str, Version, Iterable[Union[str, Version]]]]
+Candidates = Union[None, str, bytes, PathLike, Several, Iterable[Tuple[str, Union[str, Version]]]]
 Extras = Union[str, Iterable[str]]
+Assumption = Union[None, str, Marker]
 Answer = TypeVar("Answer")
 
 # A text that is meant as a path, most likely, though a package could have such a name.
@@ -60,7 +59,7 @@ _WHITE = " \t\n\r\f"
 # What is in no name of an extra: what would end its line, and what isn't UTF-8, of which the library tells by a byte of all extras.
 _NO_NAME = re.compile("[\n\ud800-\udfff]")
 # What prints as a text that nobody meant, and that may be read as a name or a version.
-_NO_TEXTS = (bytes, bytearray, memoryview, numbers.Complex, os.PathLike, enum.Enum)
+_NO_TEXTS = (bytes, bytearray, memoryview, numbers.Complex, os.PathLike, enum.Enum, type(...), type(NotImplemented), Version)
 # How the library refuses a package for the number of its cases, once it has read all inputs.
 _TOO_MANY_CASES = f"requirements: more than {LIMIT} cases for "
 # What stands between the elements of a JSON array.
@@ -348,7 +347,9 @@ def _candidate_lines(given: Any) -> str:
 
 
 def _candidate_line(name: str, version: Union[str, Version]) -> str:
-    parts = [_text_of(what, it).strip(_WHITE) for what, it in (("a name", name), ("a version", version))]
+    # (a version of a class of its own may print something else)
+    said = Version.__str__(version) if isinstance(version, Version) else _text_of("a version", version)
+    parts = [it.strip(_WHITE) for it in (_text_of("a name", name), said)]
     line = " ".join(parts)
     if not _CANDIDATE.fullmatch(line) or parts[0].split() != parts[:1]:
         raise InvalidInput(f"candidates: {line!r} is no name with a version", input="candidates")
@@ -375,6 +376,12 @@ def extras_input(given: Extras) -> Input:
     return Input("extras", _native.encoded("\n".join(extras)))
 
 
+def _assumed(given: Assumption, plain: Callable[..., str], where: Callable[..., str]) -> Tuple[Callable[..., str], List[Input]]:
+    """The call without an assumption or with one, and the marker that is assumed. Raises `InvalidMarker` for another text."""
+    marker = given if given is None or isinstance(given, Marker) else Marker(given)
+    return (plain, []) if marker is None else (where, [Input("assume", marker._bytes())])
+
+
 def answered(call: Callable[..., Answer], *inputs: Input, numbers: Tuple[int, ...] = ()) -> Answer:
     """The answer of a call, or the error with the input that is refused and the place in it."""
     try:
@@ -387,10 +394,8 @@ def _of_kind(error: InvalidInput, kind: Optional[Type[InvalidInput]]) -> Invalid
     """An error as one of this kind."""
     if kind is None:
         return error
-    return kind(
-        error.message, input=error.input, path=error.path, entry=error.entry, text=error.text, line=error.line,
-        start=error.start, end=error.end,
-    )  # fmt: skip
+    place = {"line": error.line, "start": error.start, "end": error.end}
+    return kind(error.message, input=error.input, path=error.path, entry=error.entry, text=error.text, **place)
 
 
 def _checked(limit: int) -> int:
@@ -674,8 +679,8 @@ def texts_of(answer: str) -> List[str]:
 
 
 def same(
-    left: Requirements, right: Requirements, limit: int = LIMIT, *, nodes: Most = USUAL, clauses: Most = USUAL,
-    cases: Most = USUAL,
+    left: Requirements, right: Requirements, limit: int = LIMIT, *, assume: Assumption = None, nodes: Most = USUAL,
+    clauses: Most = USUAL, cases: Most = USUAL,
 ) -> Comparison:  # fmt: skip
     """Whether two lists require the same of every package, whatever the truth of their markers is, and if
     not, where they first differ.
@@ -691,21 +696,27 @@ def same(
     the cases of all packages of either list, or None for none (`fowlyore.bounds` has those that are not given).
     Beyond the first two the `InvalidInput` is a `TooManyNodes` or a `TooManyClauses`.
 
+    With `assume`, a `Marker` or its text, only the environments and extras count for which it holds, as if each line's
+    marker were joined with it by `and`: one that always holds changes nothing, and where none ever does all lists are the
+    same. Raises `InvalidMarker` for a text that is not a marker, and `ImportError` where the library is older than this.
+
     >>> bool(same("foo>=1,<2", ["foo<2.0", "foo>=1"]))
+    True
+    >>> bool(same("foo ; os_name == 'nt'", "foo ; sys_platform == 'win32'", assume="os_name != 'nt' and sys_platform != 'win32'"))
     True
     >>> same("foo>=1", "foo>=1\\nfoo<2 ; os_name == 'nt'")
     Comparison(package='foo', place="os_name == 'nt'")
     """
-    inputs = _asking_input(left, "left"), _asking_input(right, "right")
+    call, assumed = _assumed(assume, _native.same, _native.same_where)
+    inputs = _asking_input(left, "left"), _asking_input(right, "right"), *assumed
     numbers = _checked(limit), most_nodes(nodes), most_clauses(clauses), most_cases(cases)
-    answer = answered(_native.same, *inputs, numbers=numbers)
-    lines = _native.lines_of(answer)
+    lines = _native.lines_of(answered(call, *inputs, numbers=numbers))
     return Comparison() if lines == ["yes"] else Comparison(lines[1], lines[2])
 
 
 def covers(
-    lock: Requirements, requirements: Requirements, limit: int = LIMIT, *, nodes: Most = USUAL, clauses: Most = USUAL,
-    cases: Most = USUAL,
+    lock: Requirements, requirements: Requirements, limit: int = LIMIT, *, assume: Assumption = None, nodes: Most = USUAL,
+    clauses: Most = USUAL, cases: Most = USUAL,
 ) -> Covering:  # fmt: skip
     """Whether a lock requires whatever requirements do, whatever the truth of their markers is, and if not, where it
     first doesn't, and by which lines of the requirements.
@@ -716,16 +727,19 @@ def covers(
     the same, as `same` says, cover each other. Raises `InvalidInput` for what `same` refuses: a list that is refused, the
     first line that can't be compared, as one with a URL or with `===`, and a package with more cases than `limit`.
 
-    `nodes`, `clauses` and `cases` are bounds as those of `same`.
+    `nodes`, `clauses` and `cases` are bounds as those of `same`, and `assume` is a marker as there.
 
     >>> bool(covers("foo[a,b]==1.2\\nbar==1", "foo[b]>=1"))
     True
     >>> covers("foo==1.2 ; os_name == 'nt'", "foo>=1")
     Covering(package='foo', place="os_name != 'nt'", lines=(1,))
+    >>> bool(covers("foo==1.2 ; os_name == 'nt'", "foo>=1", assume="os_name == 'nt'"))
+    True
     """
-    inputs = _asking_input(lock, "lock"), _asking_input(requirements)
+    call, assumed = _assumed(assume, _native.covers, _native.covers_where)
+    inputs = _asking_input(lock, "lock"), _asking_input(requirements), *assumed
     numbers = _checked(limit), most_nodes(nodes), most_clauses(clauses), most_cases(cases)
-    lines = _native.lines_of(answered(_native.covers, *inputs, numbers=numbers))
+    lines = _native.lines_of(answered(call, *inputs, numbers=numbers))
     if lines == ["yes"]:
         return Covering()
     found, listing = tuple(map(int, lines[3].split(","))), inputs[1].listing
@@ -734,7 +748,7 @@ def covers(
 
 
 def conflicts(
-    requirements: Requirements, limit: int = LIMIT, *, nodes: Most = USUAL, cases: Most = USUAL
+    requirements: Requirements, limit: int = LIMIT, *, assume: Assumption = None, nodes: Most = USUAL, cases: Most = USUAL
 ) -> List[Conflict]:
     """The lines of a list that contradict each other when they apply together: their version ranges have no
     point in common.
@@ -742,16 +756,19 @@ def conflicts(
     No plain version, one without a local part that is no post-release, is accepted by all lines of a
     conflict. Other versions may be: `torch==2.0+cu118` and `torch<=2.0` are a conflict, and both accept
     2.0+cu118. Raises `InvalidInput` for a list that is refused, for the first package by name with more
-    cases than `limit`, and beyond the bounds `nodes` and `cases`, as `matrix` does.
+    cases than `limit`, and beyond the bounds `nodes` and `cases`, as `matrix` does. `assume` is a marker, as that of `same`.
 
-    >>> conflicts(["numpy>=1.26", "numpy<1.26 ; sys_platform == 'win32'"])
+    >>> lines = ["numpy>=1.26", "numpy<1.26 ; sys_platform == 'win32'"]
+    >>> conflicts(lines)
     [Conflict(name='numpy', lines=(1, 2), names_prerelease=False)]
+    >>> conflicts(lines, assume="sys_platform == 'linux'")
+    []
     """
+    call, assumed = _assumed(assume, _native.conflicts, _native.conflicts_where)
     given = requirements_input(requirements)
     numbers = _checked(limit), most_nodes(nodes), most_cases(cases)
-    answer = answered(_native.conflicts, given, numbers=numbers)
     found = []
-    for line in _native.lines_of(answer):
+    for line in _native.lines_of(answered(call, given, *assumed, numbers=numbers)):
         name, lines, *pre = line.split(" ")
         found.append(Conflict(name, tuple(map(int, lines.split(","))), bool(pre)))
     return found if given.listing is None else _placed(found, given.listing)

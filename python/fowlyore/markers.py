@@ -11,7 +11,7 @@ from typing import TYPE_CHECKING, Any, Callable, Dict, Iterable, List, Literal, 
 
 from . import _native
 from ._bounds import USUAL, Most, most_clauses, most_nodes
-from ._cached import keep
+from ._cached import keep, of_its_own
 from .errors import Refused, on_one_line, refusal, told
 from .version import InvalidVersion, Version, text_of
 
@@ -145,12 +145,13 @@ def completed(given: Optional[Mapping[str, Any]]) -> Dict[str, Any]:
     return _completed(_running(), given)
 
 
-def of_mapping(given: Mapping[str, Any]) -> Mapping[str, Any]:
+def of_mapping(given: Mapping[str, Any]) -> Dict[str, Any]:
     """An environment that is given as a mapping, or as what has only the keys of one and their values, as a row of a table; of
-    pairs what is looked for in a mapping wouldn't be found."""
-    if isinstance(given, (dict, Mapping)):
+    pairs what is looked for in a mapping wouldn't be found. What has a class of its own is read once, since it may answer
+    otherwise each time."""
+    if type(given) is dict:
         return given
-    if not hasattr(given, "keys"):
+    if not isinstance(given, (dict, Mapping)) and not hasattr(given, "keys"):
         raise TypeError(f"an environment is a mapping, not {type(given).__name__}")
     return dict(given)
 
@@ -170,6 +171,8 @@ def _completed(running: Dict[str, str], given: Optional[Mapping[str, Any]]) -> D
 _kept_json: Dict[Tuple[Any, ...], bytes] = {}
 _kept_given: Dict[Tuple[Any, ...], Tuple[Dict[str, str], bytes, Any]] = {}
 _kept_answers: Dict[Tuple[str, bytes, Any], bool] = {}
+# The value of an item of an environment.
+_VALUE = operator.itemgetter(1)
 # How many environments are kept, and how many answers.
 _MOST_KEPT, _MOST_ANSWERS = 64, 4096
 
@@ -177,12 +180,13 @@ _MOST_KEPT, _MOST_ANSWERS = 64, 4096
 def environment_json(environment: Mapping[str, Any]) -> bytes:
     """The JSON that the library reads of an environment: its members as they are, except that
     `python_full_version` is `full_version_read`."""
-    values = tuple(map(environment.get, _NAMES))
+    read = of_mapping(environment)
+    values = tuple(map(read.get, _NAMES))
     if set(map(type, values)) != {str}:
-        return _json_of(environment)
+        return _json_of(read)
     made = _kept_json.get(values)
     if made is None:
-        made = _json_of(environment)
+        made = _json_of(dict(zip(_NAMES, values)))
         keep(_kept_json, values, made, _MOST_KEPT, len(made))
     return made
 
@@ -190,14 +194,13 @@ def environment_json(environment: Mapping[str, Any]) -> bytes:
 def _read_environment(given: Optional[Mapping[str, Any]]) -> Tuple[bytes, Any]:
     """The JSON of the running interpreter's environment with other values put in, and the extra there."""
     running, items = _running(), () if given is None else tuple(of_mapping(given).items())
-    try:
-        kept = _kept_given.get(items)
-    except TypeError:  # a value that can't be hashed
-        kept = None
+    # (a text that has a class of its own may be equal to others)
+    is_plain = not items or {str}.issuperset(map(type, map(_VALUE, items)))
+    kept = _kept_given.get(items) if is_plain else None
     if kept is None or kept[0] is not running:
-        values = _completed(running, given)
+        values = _completed(running, dict(items))
         kept = running, environment_json(values), values.get("extra")
-        if {str}.issuperset(type(it) for item in items for it in item):
+        if is_plain and {str}.issuperset(type(key) for key, _ in items):
             keep(_kept_given, items, kept, _MOST_KEPT, sum(len(it) for item in items for it in item))
     return kept[1:]
 
@@ -206,12 +209,23 @@ def _json_of(environment: Mapping[str, Any]) -> bytes:
     values = {key: value for key, value in environment.items() if key in MEMBERS}
     full = values.get("python_full_version")
     if isinstance(full, str):
-        values["python_full_version"] = full_version_read(full, values.get("python_version"))
+        values["python_full_version"] = full_version_read(str.__str__(full), values.get("python_version"))
     try:
-        return json.dumps(values).encode()
+        return json.dumps(values, ensure_ascii=False, allow_nan=False).encode()
     except (TypeError, ValueError, RecursionError):
-        # (the library refuses what is no text, and so what JSON has no value for)
-        return json.dumps({key: it if isinstance(it, str) else None for key, it in values.items()}).encode()
+        # (the library refuses what is no text, and so what JSON has no value for, and what isn't UTF-8)
+        return json.dumps({key: it if _is_text(it) else None for key, it in values.items()}, ensure_ascii=False).encode()
+
+
+def _is_text(value: object) -> bool:
+    """Whether a value is a text, of which UTF-8 has each character."""
+    if not isinstance(value, str):
+        return False
+    try:
+        str.encode(value)
+    except UnicodeEncodeError:
+        return False
+    return True
 
 
 def full_version_read(full: str, short: object) -> str:
@@ -298,6 +312,8 @@ class Marker:
             raise TypeError("a marker is made once")
         if not isinstance(marker, str):
             raise TypeError(f"a marker is read from a str, not from {type(marker).__name__}")
+        # (the characters alone, of a text that has a class of its own)
+        marker = str.__str__(marker)
         on_one_line(InvalidMarker, marker)
         try:
             _native.marker_check(_native.encoded(marker))
@@ -323,8 +339,8 @@ class Marker:
                 return None
             raise AttributeError(f"{type(self).__name__!r} object has no attribute {name!r}")
 
-    def __reduce__(self) -> "Tuple[type, Tuple[str]]":
-        return self.__class__, (self._given,)
+    def __reduce__(self) -> "Tuple[type, Tuple[str], Any]":
+        return self.__class__, (self._given,), of_its_own(self)
 
     def __str__(self) -> str:
         """The normal text, which equal markers have in common. If there is none it is the text that was

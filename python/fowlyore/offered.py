@@ -12,7 +12,7 @@ from typing import Any, Dict, Iterable, List, NoReturn, Optional, Tuple, Union
 
 from .core_metadata import python_of
 from .listings import LeftOut, Place
-from .lists import InvalidInput, decoded, read_whole, unread
+from .lists import InvalidInput, PathLike, decoded, read_whole, unread
 from .progress import Progress
 from .projects import is_lock, locked_versions
 from .specifiers import InvalidSpecifier, SpecifierSet
@@ -78,7 +78,7 @@ class _Interpreter:
 
 
 def wheelhouse(
-    folder: "Union[str, os.PathLike[str]]",
+    folder: Union[str, PathLike],
     left_out: LeftOuts = None,
     *,
     python: Optional[str] = None,
@@ -155,7 +155,7 @@ def _splits(text: str) -> List[Candidate]:
 
 
 def read_candidates(
-    path: "Union[str, os.PathLike[str]]",
+    path: Union[str, PathLike],
     left_out: LeftOuts = None,
     *,
     python: Optional[str] = None,

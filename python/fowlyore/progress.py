@@ -4,6 +4,7 @@ import os
 import sys
 import threading
 import time
+from contextlib import suppress
 from typing import Optional, TextIO
 
 from .errors import shown
@@ -49,8 +50,10 @@ class Progress:
 
     def __enter__(self) -> "Progress":
         if self.is_wanted and is_terminal(sys.stderr):
-            self._thread = threading.Thread(target=self._show, args=(sys.stderr, time.monotonic()), daemon=True)
-            self._thread.start()
+            thread = threading.Thread(target=self._show, args=(sys.stderr, time.monotonic()), daemon=True)
+            with suppress(RuntimeError):  # there may be no more threads
+                thread.start()
+                self._thread = thread
         return self
 
     def __exit__(self, *_: object) -> None:

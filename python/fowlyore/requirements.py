@@ -1,7 +1,7 @@
 """Requirements (PEP 508)."""
 
 import re
-from typing import Any, FrozenSet, Optional, Set, Tuple
+from typing import Any, FrozenSet, Optional, Set, Tuple, Union
 
 from . import _native
 from ._cached import cached_property
@@ -48,6 +48,8 @@ class Requirement:
             raise TypeError("a requirement is made once")
         if not isinstance(text, str):
             raise TypeError(f"a requirement is read from a str, not from {type(text).__name__}")
+        # (the characters alone, of a text that has a class of its own)
+        text = str.__str__(text)
         on_one_line(InvalidRequirement, text)
         try:
             self._parts = _native.requirement(_native.encoded(text))
@@ -84,7 +86,7 @@ class Requirement:
         return None if self._parts.marker is None else marker_of(self._parts.marker.strip())
 
     def _values(self) -> Tuple[Any, ...]:
-        return self.name, frozenset(self.extras), self.url or None
+        return _plain(self.name), frozenset(map(_plain, self.extras)), _plain(self.url or None)
 
     def _is_as_read(self) -> bool:
         """Whether no part was set or changed."""
@@ -110,14 +112,14 @@ class Requirement:
             return self._given
         text = self._text(given_text(self.marker))
         back = Requirement(text)
-        same = back._values() == self._values() and back.specifier == self.specifier
+        same = back._values() == self._values() and back.specifier == self._specifiers()
         if not same or given_text(back.marker) != given_text(self.marker):
             raise InvalidRequirement(f"{text!r} is read with other parts than were set", text=text)
         return text
 
     def _front(self) -> str:
         extras = f"[{','.join(sorted(self.extras))}]" if self.extras else ""
-        return self.name + extras
+        return str.__str__(self.name) + extras
 
     def _normal_front(self) -> Tuple[str, FrozenSet[str]]:
         """The normal names of the package and of the extras."""
@@ -130,10 +132,14 @@ class Requirement:
         marker = _marker_or_none(self.marker)
         return None if marker is None or marker.is_true() else marker
 
+    def _specifiers(self) -> Union[str, SpecifierSet]:
+        """The specifiers, of which there are none where None was set."""
+        return "" if self.specifier is None else self.specifier
+
     def _text(self, marker: str) -> str:
         """The text of its parts, with this marker text; without a marker if that is empty."""
         # (what has a class of its own may print as something else than its characters)
-        specifier, url = (it if isinstance(it, str) else str(it) for it in (self.specifier, self.url or ""))
+        specifier, url = (str.__str__(it) if isinstance(it, str) else str(it) for it in (self._specifiers(), self.url or ""))
         behind = " @ " + url + (" " if marker else "") if url else ""
         return self._front() + specifier + behind + (f"; {marker}" if marker else "")
 
@@ -155,6 +161,11 @@ class Requirement:
             and self.url == other.url
             and self._condition() == other._condition()
         )
+
+
+def _plain(value: object) -> object:
+    """A text that has a class of its own, and may be equal to others, as its characters."""
+    return str.__str__(value) if isinstance(value, str) else value
 
 
 def given_text(marker: Optional[Marker]) -> str:

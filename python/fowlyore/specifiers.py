@@ -21,6 +21,7 @@ from typing import Any, Callable, FrozenSet, Iterable, Iterator, List, Optional,
 from typing import overload
 
 from . import _native
+from ._cached import of_its_own
 from .errors import Refused, refusal
 from .version import InvalidVersion, Version, is_prerelease, is_version, text_of
 
@@ -57,11 +58,11 @@ def _members(text: str) -> List[str]:
 
 def _takes(specifiers: bytes, version: UnparsedVersion, admits: Optional[bool]) -> bool:
     """Whether a list of specifiers accepts one version, or what should be one: a pre-release unless `admits`
-    is False."""
+    is false."""
     answer = _native.take_one(specifiers, _line(version).encode("utf-8", "replace"))
     if answer == b"?":
         return _takes_no_version(specifiers, version)
-    return answer == b"1" and (admits is not False or not _is_prerelease(version))
+    return answer == b"1" and (admits is None or bool(admits) or not _is_prerelease(version))
 
 
 def _taken(
@@ -169,11 +170,13 @@ class Specifier:
         members = _members(spec)
         if len(members) != 1:
             raise InvalidSpecifier(f"Invalid specifier: {spec!r}: {len(members)} specifiers, not one", text=spec, line=1)
-        normal = members[0]
+        # (the characters alone, of a text that has a class of its own, and joins and splits in another way)
+        normal, text = members[0], str.__str__(spec)
         self._operator = normal[: len(normal) - len(normal.lstrip("=<>!~"))]
-        self._version = spec.strip()[len(self._operator) :].strip()
+        self._version = text.strip()[len(self._operator) :].strip()
         self._normal = normal[len(self._operator) :].strip()
-        self._bytes = _native.encoded(str(self))
+        # (a class below this one may print something else)
+        self._bytes = _native.encoded(self._operator + self._version)
         self._prereleases = prereleases
 
     @property
@@ -206,15 +209,15 @@ class Specifier:
         return self._normal[:-2] if self._normal.endswith(".*") else self._normal
 
     @property
-    def _canonical(self) -> "Tuple[str, Union[str, bytes]]":
+    def _canonical(self) -> Tuple[str, str, bytes]:
         """A value that is equal for specifiers with the same operator that accept the same versions. Zeros at
         the end of the release count after `~=`, after `===` and before a star."""
         if self._operator in ("~=", "===") or self._normal.endswith(".*"):
-            return self._operator, self._normal
-        return self._operator, Version(self._normal)._key
+            return self._operator, self._normal, b""
+        return self._operator, "", Version(self._normal)._key
 
-    def __reduce__(self) -> "Tuple[type, Tuple[str, Optional[bool]]]":
-        return self.__class__, (str(self), self._prereleases)
+    def __reduce__(self) -> "Tuple[type, Tuple[str, Optional[bool]], Any]":
+        return self.__class__, (self._bytes.decode(), self._prereleases), of_its_own(self)
 
     def __str__(self) -> str:
         return self._operator + self._version
@@ -337,11 +340,11 @@ class SpecifierSet:
         _want_new(self)
         if isinstance(specifiers, str):
             # Empty members are passed over, as packaging does.
-            self._given = ",".join(it for it in specifiers.split(",") if it.strip())
+            self._given = ",".join(it for it in str.split(specifiers, ",") if it.strip())
             _members(self._given)
         else:
             self._made = tuple(it if isinstance(it, Specifier) else Specifier(it) for it in specifiers)
-            self._given = ",".join(map(str, self._made))
+            self._given = b",".join([it._bytes for it in self._made]).decode()
         self._bytes = _native.encoded(self._given)
         self._prereleases = prereleases
 
@@ -378,9 +381,9 @@ class SpecifierSet:
     def prereleases(self, value: Optional[bool]) -> None:
         self._prereleases = value
 
-    def __reduce__(self) -> "Tuple[type, Tuple[Union[str, Tuple[Specifier, ...]], Optional[bool]]]":
+    def __reduce__(self) -> "Tuple[type, Tuple[Union[str, Tuple[Specifier, ...]], Optional[bool]], Any]":
         # (the members themselves, once there are some: of each it may be set whether it lets pre-releases in)
-        return self.__class__, (getattr(self, "_made", self._given), self._prereleases)
+        return self.__class__, (getattr(self, "_made", self._given), self._prereleases), of_its_own(self)
 
     def __str__(self) -> str:
         return ",".join(sorted(map(str, self._distinct)))
@@ -415,7 +418,7 @@ class SpecifierSet:
 
     def __eq__(self, other: object) -> bool:
         if isinstance(other, (str, Specifier)):
-            other = SpecifierSet(_text(other))
+            other = SpecifierSet(other if isinstance(other, str) else [other])
         elif not isinstance(other, SpecifierSet):
             return NotImplemented
         return self._distinct == other._distinct

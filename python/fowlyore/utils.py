@@ -95,7 +95,7 @@ def _read_name(name: str) -> str:
     if not _NAME.fullmatch(name):
         return ""
     try:
-        return _native.requirement(name.encode()).name
+        return _native.requirement(str.encode(name)).name
     except _native.Fault:
         return ""
 
@@ -121,7 +121,8 @@ def is_normalized_name(name: str) -> bool:
     (True, False, False)
     """
     normal = normal_name(name)
-    return normal != "" and normal == name
+    # (a text that has a class of its own may be equal to others)
+    return normal != "" and normal == str.__str__(name)
 
 
 def canonicalize_version(version: Union[Version, str], *, strip_trailing_zero: bool = True) -> str:
@@ -137,7 +138,8 @@ def canonicalize_version(version: Union[Version, str], *, strip_trailing_zero: b
         made = version if isinstance(version, Version) else Version(version)
     except InvalidVersion:
         return version if isinstance(version, str) else str(version)
-    normal = str(made)
+    # (a class of its own may print something else)
+    normal = Version.__str__(made)
     if not strip_trailing_zero:
         return normal
     base = made.base_version
@@ -162,7 +164,7 @@ def parse_wheel_filename(
     >>> name, version, build, sorted(map(str, tags))
     ('foo-bar', <Version('1.0')>, (2, 'b'), ['py2-none-any', 'py3-none-any'])
     """
-    _want_text(filename)
+    filename = _text_of(filename)
     if not filename.endswith(".whl"):
         raise _refused(InvalidWheelFilename, filename, "it doesn't end in `.whl`", len(filename))
     parts = filename[: -len(".whl")].split("-")
@@ -213,7 +215,7 @@ def parse_sdist_filename(filename: str) -> Tuple[NormalizedName, Version]:
     >>> parse_sdist_filename("Foo_Bar-1.0.tar.gz")
     ('foo-bar', <Version('1.0')>)
     """
-    _want_text(filename)
+    filename = _text_of(filename)
     if filename.endswith(".tar.gz"):
         front = filename[: -len(".tar.gz")]
     elif filename.endswith(".zip"):
@@ -226,9 +228,11 @@ def parse_sdist_filename(filename: str) -> Tuple[NormalizedName, Version]:
     return _named(InvalidSdistFilename, filename, name, version)
 
 
-def _want_text(filename: object) -> None:
+def _text_of(filename: object) -> str:
+    """The characters of a file's name, also of one that has a class of its own."""
     if not isinstance(filename, str):
         raise TypeError(f"the name of a file is a str, not {type(filename).__name__}")
+    return str.__str__(filename)
 
 
 def _named(kind: Type[Kind], filename: str, name: str, version: str) -> Tuple[NormalizedName, Version]:

@@ -4,6 +4,7 @@ import re
 from typing import Any, NamedTuple, Optional, Tuple
 
 from . import _native
+from ._cached import of_its_own
 from .errors import Refused, refusal, told
 
 __all__ = ["InvalidVersion", "Version", "normalize_pre", "parse"]
@@ -136,11 +137,12 @@ class Version:
         >>> Version("1.2rc1+local").__replace__(pre=None, post=4)
         <Version('1.2.post4+local')>
         """
-        made = Parts(**{**self._parts._asdict(), **parts})
-        return self if made == self._parts else type(self)(text_of_parts(made))
+        # (texts are compared, since a part may be equal to another one that is none)
+        text = text_of_parts(Parts(**{**self._parts._asdict(), **parts}))
+        return self if text == text_of_parts(self._parts) else type(self)(text)
 
-    def __reduce__(self) -> "Tuple[type, Tuple[str]]":
-        return self.__class__, (self._given,)
+    def __reduce__(self) -> "Tuple[type, Tuple[str], Any]":
+        return self.__class__, (self._given,), of_its_own(self)
 
     def __hash__(self) -> int:
         return hash(self._key)
@@ -180,7 +182,8 @@ class Version:
         try:
             return self._read
         except AttributeError:
-            self._read = _parts_of(str(self))
+            # (a class below this one may print something else)
+            self._read = _parts_of(Version.__str__(self))
             return self._read
 
     @property
@@ -337,7 +340,7 @@ def text_of_parts(parts: Parts) -> str:
         # (white space at its end would be read as that around a version)
         is_local = isinstance(parts.local, str) and parts.local.split() == [parts.local]
         _want(is_local, "local", "a local version", parts.local)
-        text += "+" + parts.local
+        text += "+" + str.__str__(parts.local)
     return text
 
 
@@ -375,7 +378,7 @@ def text_of(version: object) -> str:
     if isinstance(version, Version):
         return version._given.strip(" \t\n\r\f")
     if isinstance(version, str):
-        text = version.strip(" \t\n\r\f")
+        text = str.strip(version, " \t\n\r\f")
         return str(Version(version)) if "\n" in text else text
     raise TypeError(f"a version is read from a str, not from {type(version).__name__}")
 

@@ -9,10 +9,11 @@ import pkgutil
 import re
 import subprocess
 import sys
+import typing
 import unittest
 
 import fowlyore
-from fowlyore import _native
+from fowlyore import _native, explanations
 from fowlyore.__main__ import STRICT
 
 TOP = pathlib.Path(__file__).resolve().parents[2]
@@ -92,3 +93,9 @@ class Typed(unittest.TestCase):
         wanted |= {"Version.__init__", "Version.release"} if _native.extension is None else set()
         self.assertLessEqual(wanted, seen)
         self.assertTrue(pathlib.Path(fowlyore.__path__[0], "py.typed").exists())
+
+    def test_each_type_is_there(self):
+        """Who reads the types of arguments is given them, also by Python 3.8."""
+        for value in (explanations.check_explained, explanations.explain, *(getattr(fowlyore, it) for it in fowlyore.__all__)):
+            for it in functions_of(value):
+                self.assertIn("return", typing.get_type_hints(it), it.__qualname__)

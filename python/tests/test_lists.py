@@ -87,6 +87,11 @@ class Answers(unittest.TestCase):
         (row,) = fowlyore.check([f"{name}>=0.dev0"], candidates=found)
         self.assertEqual(row.version, fowlyore.Version(found[name]))
 
+    def test_versions_that_print_something_else(self):
+        kind = type("Own", (fowlyore.Version,), {"__str__": lambda self: "9"})
+        for candidates in ({"a": kind("1")}, {"a": [kind("1")]}, [("a", kind("1"))]):
+            self.assertEqual(printed(fowlyore.check("a", candidates=candidates)), "a 1\n")
+
     def test_installed(self):
         found = dict(fowlyore.installed())
         name = sorted(found)[0]
@@ -237,6 +242,88 @@ class Answers(unittest.TestCase):
             self.assertEqual(fowlyore.same("foo", f"foo\nfoo<1 ; {place}").place, place, repr(it))
 
 
+class Assumptions(unittest.TestCase):
+    WINDOWS = "os_name == 'nt' and sys_platform == 'win32'"
+    REAL = f"{WINDOWS} or os_name == 'posix' and sys_platform != 'win32'"
+
+    def test_conflicts(self):
+        apart = ["foo>=2 ; sys_platform == 'win32'", "foo<2 ; os_name == 'posix'"]
+        self.assertEqual(fowlyore.conflicts(apart), [fowlyore.Conflict("foo", (1, 2), False)])
+        self.assertEqual(fowlyore.conflicts(apart, assume=self.REAL), [])
+        extras = ["foo>=2", "foo<2 ; extra == 'a'", "foo<1 ; extra != 'a'"]
+        for marker, lines in (("extra == 'A'", (1, 2)), ("extra != 'a'", (1, 3))):
+            self.assertEqual([it.lines for it in fowlyore.conflicts(extras, assume=marker)], [lines])
+
+    def test_same(self):
+        left, right = "foo ; os_name == 'nt'", f"foo ; {self.WINDOWS}"
+        self.assertFalse(fowlyore.same(left, right))
+        self.assertTrue(fowlyore.same(left, right, assume=fowlyore.Marker(self.REAL)))
+        answer = fowlyore.same("foo>=1", "foo>=2", assume="extra == 'a'")
+        self.assertEqual((answer.package, answer.place, answer.marker), ("foo", "extra == 'a'", "extra == 'a'"))
+
+    def test_covers(self):
+        lock = "foo==1.2 ; os_name == 'nt'"
+        self.assertTrue(fowlyore.covers(lock, "foo>=1", assume="os_name == 'nt'"))
+        answer = fowlyore.covers(lock, "bar\nfoo>=1 ; os_name != 'java'", assume="os_name == 'nt' or os_name == 'posix'")
+        self.assertEqual((answer.package, answer.lines), ("bar", (1,)))
+        answer = fowlyore.covers(lock, "foo>=1", assume="os_name == 'nt' or os_name == 'posix'")
+        self.assertEqual((answer.package, answer.place, answer.lines), ("foo", "os_name == 'posix'", (1,)))
+
+    def test_constants(self):
+        """What always holds changes nothing, and where nothing holds nothing is required."""
+        before, after = (EXAMPLES / "lock" / f"{it}.txt" for it in ("before", "after"))
+        apart = EXAMPLES / "apart" / "requirements.txt"
+        for always in ("'a' == 'b'", "os_name == 'a' or os_name != 'a'"):
+            self.assertEqual(fowlyore.same(before, after, assume=always), fowlyore.same(before, after))
+            self.assertEqual(fowlyore.covers(before, after, assume=always), fowlyore.covers(before, after))
+            self.assertEqual(fowlyore.conflicts(apart, assume=always), fowlyore.conflicts(apart))
+        never = "os_name == 'a' and os_name == 'b'"
+        self.assertTrue(fowlyore.same(before, after, assume=never) and fowlyore.covers("foo", before, assume=never))
+        self.assertEqual(fowlyore.conflicts(apart, assume=never), [])
+
+    def test_joined_by_and(self):
+        """Answers are those on lists whose lines have the marker joined by `and`."""
+        draw = random.Random(1)
+        for _ in range(200):
+            lists = [[self.line(draw) for _ in range(3)] for _ in "ab"]
+            assume = self.marker(draw)
+            joined = [[f"{name};({marker}) and ({assume})" for name, marker in (it.split(";") for it in one)] for one in lists]
+            self.assertEqual(fowlyore.same(*lists, assume=assume), fowlyore.same(*joined), (lists, assume))
+            self.assertEqual(fowlyore.covers(*lists, assume=assume), fowlyore.covers(*joined), (lists, assume))
+            self.assertEqual(fowlyore.conflicts(lists[0], assume=assume), fowlyore.conflicts(joined[0]), (lists, assume))
+
+    @classmethod
+    def line(cls, draw):
+        return f"{draw.choice('fg')}{draw.choice(('>=1', '<1', '>=2', '[e]'))};{cls.marker(draw)}"
+
+    @staticmethod
+    def marker(draw):
+        keys = draw.choices(("os_name", "sys_platform", "extra"), k=draw.choice((1, 2)))
+        return draw.choice((" and ", " or ")).join(f"{it} {draw.choice(('==', '!='))} '{draw.choice('xy')}'" for it in keys)
+
+    def test_refusals(self):
+        for call in (fowlyore.same, fowlyore.covers):
+            with self.assertRaises(fowlyore.InvalidInput) as found:
+                call("a", "b b", assume="os_name == 'nt'")
+            self.assertEqual(found.exception.input, "right" if call is fowlyore.same else "requirements")
+        with self.assertRaises(fowlyore.TooManyNodes):
+            fowlyore.conflicts("foo", assume="os_name == 'nt'", nodes=0)
+        with self.assertRaises(fowlyore.TooManyClauses):
+            fowlyore.same("foo", "", assume="os_name == 'nt' or sys_platform == 'win32'", clauses=1)
+
+
+class NoMarkers(unittest.TestCase):
+    def test_as_markers_are_refused(self):
+        calls = [lambda it: fowlyore.same("a a", "b", assume=it), lambda it: fowlyore.covers("a a", "b", assume=it)]
+        for call in (*calls, lambda it: fowlyore.conflicts("a a", assume=it)):
+            for given in ("os_name == 'nt' and bad == 'x'", "", "os_name\n", "\ud800", b"os_name == 'nt'", 5):
+                with self.assertRaises((fowlyore.InvalidMarker, TypeError)) as wanted:
+                    fowlyore.Marker(given)
+                with self.assertRaises(type(wanted.exception)) as found:
+                    call(given)
+                self.assertEqual(str(found.exception), str(wanted.exception))
+
+
 class Refusals(unittest.TestCase):
     def refused(self, call, *given, **named):
         with self.assertRaises(fowlyore.InvalidInput) as found:
@@ -313,7 +400,8 @@ class Refusals(unittest.TestCase):
     def test_what_prints_as_a_line(self):
         """Of a mapping the values would be lost, and a path or a member of an `Enum` prints as a text that is no requirement."""
         plain = enum.Enum("plain", ["a"])
-        for lines in ({"a": ">=2"}, [pathlib.Path("a")], [plain.a], [memoryview(b"a")], [1j]):
+        others = [[it] for it in (pathlib.Path("a"), plain.a, memoryview(b"a"), 1j, ..., NotImplemented, fowlyore.Version("1"))]
+        for lines in ({"a": ">=2"}, *others):
             for call in (fowlyore.normal, lambda it: fowlyore.check(it, candidates=""), lambda it: fowlyore.same("a", it)):
                 with self.assertRaises(TypeError, msg=lines):
                     call(lines)
@@ -373,6 +461,15 @@ class Refusals(unittest.TestCase):
             self.assertEqual(row.outcome, "1")
         values["python_full_version"] = "2.7.18"
         self.assertEqual(fowlyore.matrix("a", [Keys(values)], "a 1"), [[row]])
+
+    def test_environments_that_have_no_text(self):
+        """Their member is named, also of a number and a text that JSON has no value for."""
+        whole = fowlyore.default_environment()
+        for value in ("a\ud800", float("nan"), float("inf")):
+            environment = {**whole, "os_name": value}
+            for call in (lambda it: fowlyore.check("a", it, ""), lambda it: fowlyore.matrix("a", [it], "")):
+                with self.assertRaisesRegex(fowlyore.InvalidInput, "environment 1: member os_name is missing or no text$"):
+                    call(environment)
 
     def test_too_long(self):
         """A file is refused as its text is, of which no more is read than that takes."""

@@ -15,7 +15,10 @@ HEADER = pathlib.Path(__file__).resolve().parents[2] / "include" / "reqs.h"
 TYPES = {"uint32_t": ctypes.c_uint32, "int64_t": ctypes.c_int64, "reqs_reply": _native.Reply}
 TEXT, ROOM = [ctypes.c_char_p, ctypes.c_size_t], [ctypes.c_void_p, ctypes.c_size_t]
 # What the package doesn't call: versions compare by keys that it makes, and its answers are values.
-UNUSED = {"reqs_version_order", *(f"reqs_{it}_json" for it in ("check", "matrix", "same", "covers", "conflicts", "normal"))}
+UNUSED = {
+    "reqs_version_order", *(f"reqs_{it}_json" for it in ("check", "matrix", "same", "covers", "conflicts", "normal")),
+    *(f"reqs_{it}_where_json" for it in ("same", "covers", "conflicts")),
+}  # fmt: skip
 
 
 def prototypes():
@@ -60,6 +63,12 @@ class Loading(unittest.TestCase):
             ran = subprocess.run([sys.executable, "-c", "import fowlyore"], env=environment, stderr=subprocess.PIPE)
             self.assertNotEqual(ran.returncode, 0)
             self.assertIn(f"ImportError: fowlyore {said}".encode(), ran.stderr)
+
+    def test_a_library_without_a_younger_call(self):
+        lacking = _native._call_if_there("reqs_of_another_year", 1, numbers=0, long=1)
+        for _ in range(2):
+            with self.assertRaisesRegex(ImportError, "can't call its library: .*reqs_of_another_year"):
+                lacking(b"a")
 
     def test_an_isolated_interpreter(self):
         """It takes the library beside the package's modules, or says that there is none, whatever the variable names."""

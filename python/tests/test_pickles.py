@@ -87,6 +87,16 @@ MADE = {
 }  # fmt: skip
 
 
+class Below:
+    """Classes below those of the package, by these."""
+
+    Version = type("Version", (Version,), {"__module__": __name__, "__qualname__": "Below.Version"})
+    Specifier = type("Specifier", (Specifier,), {"__module__": __name__, "__qualname__": "Below.Specifier"})
+    SpecifierSet = type("SpecifierSet", (SpecifierSet,), {"__module__": __name__, "__qualname__": "Below.SpecifierSet"})
+    Marker = type("Marker", (Marker,), {"__module__": __name__, "__qualname__": "Below.Marker"})
+    Requirement = type("Requirement", (Requirement,), {"__module__": __name__, "__qualname__": "Below.Requirement"})
+
+
 def parts_of(value):
     """What a value says of itself: its class, its texts, and its parts."""
     parts = {"class": type(value), "str": str(value), "repr": repr(value)}
@@ -141,6 +151,15 @@ class Pickled(unittest.TestCase):
         for name, value in values():
             self.assert_alike(copy.copy(value), value, name)
             self.assert_alike(copy.deepcopy(value), value, name)
+
+    def test_what_was_set_on_one_of_a_class_below(self):
+        kinds = {Version: "1", Specifier: ">=1", SpecifierSet: ">=1", Marker: "os_name == 'nt'", Requirement: "a"}
+        for kind, text in kinds.items():
+            below = getattr(Below, kind.__name__)
+            value = below(text)
+            value.why = ["said"]
+            for back in (copy.copy(value), copy.deepcopy(value), pickle.loads(pickle.dumps(value))):
+                self.assertEqual((type(back), back, back.why), (below, value, ["said"]))
 
     def test_a_set_is_no_other_one(self):
         """What is set on a copy isn't set on the value."""

@@ -550,6 +550,13 @@ class Locks(OfToml):
         said, entry = self.fault("lock-version = '1.0'\ndefault-groups = ['a b']", "pylock.toml")
         self.assertEqual((said, entry), ("default-groups[0]: 'a b' is no name", "default-groups[0]"))
 
+    def test_a_group_at_once_behind_a_word(self):
+        """As an extra may stand there, though none may in a requirement."""
+        markers = ("os_name == 'nt'or'dev' in dependency_groups", "os_name == 'nt'or'dev'not in dependency_groups")
+        path = self.project(self.locked(*markers, front="dependency-groups = ['dev']\n"), "pylock.toml")
+        found = [[it.name for it in check(read(path, groups=groups), ENVIRONMENT, "")] for groups in ("dev", ())]
+        self.assertEqual(found, [["a"], ["b"]])
+
     def test_random_markers(self):
         """As sets are asked by Python itself."""
         for seed in range(ROUNDS):

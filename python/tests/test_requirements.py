@@ -212,6 +212,43 @@ class InLists(unittest.TestCase):
         requirement.url = texts.url
         self.assertEqual((str(requirement), requirement._line()), ("a @ https://e.org/x", "a @ https://e.org/x"))
 
+    def test_specifiers_that_are_none(self):
+        requirement = Requirement("a>=1 ; os_name == 'nt'")
+        requirement.specifier = None
+        self.assertEqual((str(requirement), fowlyore.normal([requirement])), ("a; os_name == 'nt'", ["a ; os_name == 'nt'"]))
+
+    def test_texts_that_are_equal_to_others(self):
+        """A part that was set is another one where its characters are others."""
+        class Odd(str):
+            def __eq__(self, other):
+                return True
+
+            def __hash__(self):
+                return hash("a")
+
+        for part, value, line in (("name", "b", "b[a]"), ("extras", {Odd("b")}, "a[b]")):
+            requirement = Requirement("a[a]")
+            setattr(requirement, part, Odd(value) if part == "name" else value)
+            self.assertEqual((str(requirement), fowlyore.normal([requirement])), (line, [line]))
+        requirement = Requirement("a @ https://e.org/x")
+        requirement.url = Odd("https://e.org/y")
+        self.assertEqual(requirement._line(), "a @ https://e.org/y")
+
+    def test_texts_that_join_in_another_way(self):
+        """As those of templates do, which escape what is joined to them."""
+        class Markup(str):
+            def __add__(self, other):
+                return str(self) + other.replace(">", "&gt;")
+
+            def strip(self, *_):
+                return "b"
+
+        requirement = Requirement(Markup("a>=1 ; os_name > 'a'"))
+        self.assertEqual(fowlyore.normal([requirement]), ["a>=1 ; os_name > 'a'"])
+        requirement.name = Markup("c")
+        self.assertEqual(str(requirement), "c>=1; os_name > 'a'")
+        self.assertEqual(str(Marker(Markup("os_name > 'a'"))), "os_name > 'a'")
+
     def test_reading_parts_changes_nothing(self):
         text = "foo [a] >= 1.0 ; os_name == 'nt'"
         it = Requirement(text)

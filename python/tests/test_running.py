@@ -86,6 +86,50 @@ class Texts(unittest.TestCase):
             self.assertEqual(json.loads(markers.environment_json({**base, "os_name": value}))["os_name"], value)
             self.assertIs(type(json.loads(markers.environment_json({**base, "os_name": value}))["os_name"]), type(value))
 
+    def test_mappings_that_answer_otherwise_each_time(self):
+        """Each is read once, so that no answer is kept by other values than it was made of."""
+        class Keys:
+            count = 0
+
+            def keys(self):
+                Keys.count += 1
+                return ["os_name"]
+
+            def __getitem__(self, key):
+                return f"odd{Keys.count}"
+
+        class Items(dict):
+            def items(self):
+                return [("os_name", "odd-items")]
+
+            def get(self, key, default=None):
+                return super().get(key, "odd-get")
+
+        marker = Marker("os_name == 'odd1'")
+        self.assertTrue(marker.evaluate(Keys()))
+        self.assertFalse(marker.evaluate({"os_name": "odd2"}))
+        self.assertTrue(marker.evaluate({"os_name": "odd1"}))
+        self.assertTrue(marker.evaluate(Items(os_name="odd1")))
+        self.assertTrue(Marker("os_name == 'odd-items'").evaluate({"os_name": "odd-items"}))
+        base = default_environment()
+        del base["os_name"]
+        markers.environment_json(Items(base))
+        self.assertEqual(json.loads(markers.environment_json({**base, "os_name": "odd-get"}))["os_name"], "odd-get")
+
+    def test_texts_that_are_equal_to_others(self):
+        """Answers on others aren't given for them."""
+        class Odd(str):
+            def __eq__(self, other):
+                return True
+
+            def __hash__(self):
+                return hash("nt")
+
+        marker = Marker("os_name == 'nt'")
+        self.assertTrue(marker.evaluate({"os_name": "nt"}))
+        self.assertFalse(marker.evaluate({"os_name": Odd("posix")}))
+        self.assertTrue(marker.evaluate({"os_name": Odd("nt")}))
+
     def test_many(self):
         base = default_environment()
         for it in range(1000):

@@ -1,7 +1,9 @@
 """Specifiers, by PEP 440."""
 
+import copy
 import enum
 import itertools
+import subprocess
 import sys
 import unittest
 import weakref
@@ -125,6 +127,13 @@ class Prereleases(unittest.TestCase):
             if given is None:
                 self.assertIs(early in it, admits)
 
+    def test_what_counts_as_false(self):
+        """No pre-release is let in by it, as by False."""
+        for kind, said in itertools.product((Specifier, SpecifierSet), (0, 0.0, "")):
+            self.assertFalse(kind(">=1").contains("2rc1", prereleases=said))
+            self.assertNotIn("2rc1", kind(">=1", prereleases=said))
+            self.assertTrue(kind(">=1").contains("2", prereleases=said))
+
     def test_filtered(self):
         rows = [
             (Specifier, ">=1", None, ["1.0", "2.0a1"], ["1.0"]),
@@ -186,6 +195,11 @@ class Values(unittest.TestCase):
         self.assertNotEqual(Specifier("==1"), 1)
         self.assertEqual(SpecifierSet(">=1,<2"), "<2.0,>=1")
         self.assertEqual(SpecifierSet("==1"), Specifier("==1.0"))
+
+    def test_equal_without_comparing_texts_with_bytes(self):
+        """Of which Python warns by `-b`."""
+        code = "from fowlyore import Specifier\nassert all(Specifier(f'{it}1.*') != Specifier(f'{it}1') for it in ('==', '!='))"
+        self.assertEqual(subprocess.run([sys.executable, "-bb", "-B", "-c", code]).returncode, 0)
 
     def test_sets(self):
         both = SpecifierSet(">=1") & SpecifierSet("<2", prereleases=True) & "!=1.5"
@@ -268,6 +282,34 @@ class Values(unittest.TestCase):
         self.assertEqual(list(specifiers.filter([texts.version])), [texts.version])
         with self.assertRaises(InvalidVersion):
             specifiers.contains(texts.many)
+
+    def test_texts_that_join_in_another_way(self):
+        """As those of templates do, which escape what is joined to them."""
+        class Markup(str):
+            def __radd__(self, other):
+                return other.replace(">", "&gt;") + str(self)
+
+            def strip(self, *_):
+                return self
+
+            def split(self, *_):
+                return [self]
+
+        texts = [str(Specifier(Markup(">=1.0"))), str(SpecifierSet(Markup(">=1.0,"))), str(SpecifierSet([Markup(">=1.0")]))]
+        self.assertEqual(texts, [">=1.0"] * 3)
+        self.assertTrue(Specifier(Markup(">=1.0")).contains(Markup(" 2")))
+
+    def test_classes_that_print_something_else(self):
+        """What counts of a specifier isn't what it prints."""
+        class Own(Specifier):
+            def __str__(self):
+                return ">=9"
+
+        own, both = Own(">=1"), SpecifierSet([Own(">=1")]) & SpecifierSet([Own("<3")])
+        for it in (own, copy.copy(own), SpecifierSet([own]), both, copy.copy(both)):
+            self.assertTrue(it.contains("2"))
+            self.assertFalse(it.contains("0"))
+        self.assertEqual((SpecifierSet(">=1"), str(SpecifierSet([own]))), (own, ">=9"))
 
     def test_weak_references(self):
         for it in (Specifier(">=1"), SpecifierSet(">=1")):

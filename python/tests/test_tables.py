@@ -2,7 +2,9 @@
 
 import html.parser
 import io
+import pathlib
 import re
+import tempfile
 import textwrap
 import threading
 import time
@@ -113,6 +115,14 @@ class Matrices(unittest.TestCase):
         self.assertEqual({it for it, _ in found.elements} & {"script", "link", "img", "iframe"}, set())
         self.assertNotRegex(page, r"https?:|url\(|@import|src=|\son\w+=")
         self.assertIn("os_name <&>", found.texts)
+
+    def test_without_environments(self):
+        """There is no line then, as in the text for programs."""
+        with tempfile.TemporaryDirectory() as folder:
+            path = pathlib.Path(folder, "none.json")
+            path.write_text("[]")
+            words = [WORDS[0], WORDS[1], str(path), *WORDS[3:]]
+            self.assertEqual([run(*words, "--format", it) for it in ("text", "table")], [(0, "", "")] * 2)
 
     def test_command_line(self):
         status, out, err = run(*WORDS)
@@ -227,6 +237,11 @@ class LongWork(unittest.TestCase):
         with mock.patch("threading.excepthook") as failed:
             self.assertEqual(self.shown(lambda *_: self.assertTrue(asked.wait(MOST)), stream=Gone), "")
         self.assertFalse(failed.called)
+
+    def test_without_more_threads(self):
+        """Nothing is shown then, and the work goes on."""
+        with mock.patch("threading.Thread.start", side_effect=RuntimeError("can't start new thread")):
+            self.assertEqual(self.shown(lambda found, _: found.step()), "")
 
     def test_faults_go_on(self):
         with self.assertRaises(KeyError), Progress("x"):

@@ -29,6 +29,24 @@ class Names(unittest.TestCase):
             self.assertEqual(canonicalize_name(name, validate=True), normal)
             self.assertIs(is_normalized_name(name), name == normal, name)
 
+    def test_texts_of_other_classes(self):
+        """What counts of them are their characters."""
+        class Odd(str):
+            def __eq__(self, other):
+                return True
+
+            def encode(self, *_):
+                return b"bar"
+
+            def split(self, *_):
+                return ["bar", "2", "py3", "none", "any"]
+
+            __hash__ = str.__hash__
+
+        self.assertEqual(canonicalize_name(Odd("Foo")), "foo")
+        self.assertEqual([is_normalized_name(Odd(it)) for it in ("Foo", "foo")], [False, True])
+        self.assertEqual(parse_wheel_filename(Odd("foo-1-py3-none-any.whl"))[:2], ("foo", Version("1")))
+
     def test_no_names(self):
         for name, written in NO_NAMES.items():
             self.assertEqual(canonicalize_name(name), written, repr(name))
@@ -68,6 +86,11 @@ class Versions(unittest.TestCase):
     def test_texts_that_print_as_others(self):
         text = enum.Enum("texts", {"none": "french toast"}, type=str).none
         self.assertEqual(canonicalize_version(text), "french toast")
+
+    def test_classes_that_print_something_else(self):
+        kind = type("Own", (Version,), {"__str__": lambda self: "v9"})
+        self.assertEqual(canonicalize_version(kind("1.0.0rc1")), "1rc1")
+        self.assertEqual(canonicalize_version(kind("1.0.0rc1"), strip_trailing_zero=False), "1.0.0rc1")
 
     def test_others_are_left(self):
         for text in ("", "french toast", "1.0.*", " 1.0x ", str(2**64)):

@@ -144,6 +144,20 @@ class Made(unittest.TestCase):
         with self.assertRaises(TypeError):
             version.__replace__(minor=1)
 
+    def test_replaced_by_what_is_equal(self):
+        """A part that is none is refused, and a text of a class of its own counts by its characters."""
+        class Odd(str):
+            def __eq__(self, other):
+                return True
+
+            __hash__ = str.__hash__
+
+        version = Version("2!1+a")
+        for parts in ({"epoch": 2.0}, {"release": (1.0,)}, {"release": (1 + 0j,)}):
+            with self.assertRaises(InvalidVersion, msg=parts):
+                version.__replace__(**parts)
+        self.assertEqual(str(version.__replace__(local=Odd("b"))), "2!1+b")
+
     def test_each_part_put_back(self):
         for text in RISING:
             version = Version(text)
@@ -199,6 +213,17 @@ class Values(unittest.TestCase):
         self.assertIs(type(version._given), str)
         self.assertEqual((str(version), str(pickle.loads(pickle.dumps(version)))), ("1.5", "1.5"))
         self.assertEqual(str(Version.from_parts(release=(1,), local=texts.local)), "1+a")
+
+    def test_classes_that_print_something_else(self):
+        """What counts of a version isn't what it prints."""
+        class Own(Version):
+            def __str__(self):
+                return "v9"
+
+        own = Own("1!2.3rc4.post5.dev6+x")
+        parts = own.epoch, own.release, own.pre, own.post, own.dev, own.local, own.base_version, own.is_prerelease
+        self.assertEqual(parts, (1, (2, 3), ("rc", 4), 5, 6, "x", "1!2.3", True))
+        self.assertEqual((own.__replace__(local="y"), str(own)), (Version("1!2.3rc4.post5.dev6+y"), "v9"))
 
     def test_texts_with_bytes_of_their_own(self):
         """What counts of a text are its characters, and what is no text is none, whatever bytes it gives."""

@@ -3,7 +3,8 @@
 #include "reqs.h"
 
 enum {
-    CHECK, MATRIX, SAME, COVERS, CONFLICTS, NORMAL, CHECK_JSON, MATRIX_JSON, SAME_JSON, COVERS_JSON, CONFLICTS_JSON, NORMAL_JSON,
+    CHECK, MATRIX, SAME, COVERS, CONFLICTS, NORMAL, SAME_WHERE, COVERS_WHERE, CONFLICTS_WHERE,
+    CHECK_JSON, MATRIX_JSON, SAME_JSON, COVERS_JSON, CONFLICTS_JSON, NORMAL_JSON, SAME_WHERE_JSON, COVERS_WHERE_JSON, CONFLICTS_WHERE_JSON,
     VERSION, KEY, ORDER, SPECIFIERS, TAKE, RANGES_DISJOINT, SUBSET, EMPTY, REQUIREMENT, CHECKED, MARKER, MARKER_KEY, TRUTH, DISJOINT, IMPLIES,
     NEGATED, PYTHON, EXTRAS, HOLD, ABI,
     CALLS
@@ -37,6 +38,12 @@ static reqs_reply made(uint64_t which, const uint8_t *const *text, const uint64_
         return reqs_conflicts(T(0), most->limit, most->nodes, most->cases, out, room);
     case NORMAL:
         return reqs_normal(T(0), most->nodes, most->clauses, out, room);
+    case SAME_WHERE:
+        return reqs_same_where(T(0), T(1), T(2), most->limit, most->nodes, most->clauses, most->cases, out, room);
+    case COVERS_WHERE:
+        return reqs_covers_where(T(0), T(1), T(2), most->limit, most->nodes, most->clauses, most->cases, out, room);
+    case CONFLICTS_WHERE:
+        return reqs_conflicts_where(T(0), T(1), most->limit, most->nodes, most->cases, out, room);
     case CHECK_JSON:
         return reqs_check_json(T(0), T(1), T(2), T(3), out, room);
     case MATRIX_JSON:
@@ -49,6 +56,12 @@ static reqs_reply made(uint64_t which, const uint8_t *const *text, const uint64_
         return reqs_conflicts_json(T(0), most->limit, most->nodes, most->cases, out, room);
     case NORMAL_JSON:
         return reqs_normal_json(T(0), most->nodes, most->clauses, out, room);
+    case SAME_WHERE_JSON:
+        return reqs_same_where_json(T(0), T(1), T(2), most->limit, most->nodes, most->clauses, most->cases, out, room);
+    case COVERS_WHERE_JSON:
+        return reqs_covers_where_json(T(0), T(1), T(2), most->limit, most->nodes, most->clauses, most->cases, out, room);
+    case CONFLICTS_WHERE_JSON:
+        return reqs_conflicts_where_json(T(0), T(1), most->limit, most->nodes, most->cases, out, room);
     case VERSION:
         return reqs_version(T(0), out, room);
     case KEY:

@@ -126,6 +126,22 @@ static void answered(const char *what, reqs_reply reply) {
     }
 }
 
+/* Such a list where its line's own marker holds, in which nothing contradicts itself. */
+static void assumed(struct text list, int count) {
+    static uint8_t out[8 << 20];
+    struct text marker = extras(count);
+    answered("same where", reqs_same_where(list.bytes, list.length, list.bytes, list.length, marker.bytes, marker.length, 4096,
+                                           REQS_NO_BOUND, REQS_NO_BOUND, REQS_NO_BOUND, out, sizeof out));
+    answered("covers where", reqs_covers_where(list.bytes, list.length, list.bytes, list.length, marker.bytes, marker.length, 4096,
+                                               REQS_NO_BOUND, REQS_NO_BOUND, REQS_NO_BOUND, out, sizeof out));
+    reqs_reply reply = reqs_conflicts_where(list.bytes, list.length, marker.bytes, marker.length, 4096, REQS_NO_BOUND, REQS_NO_BOUND,
+                                            out, sizeof out);
+    if (reply.status != REQS_ANSWERED || reply.length != 0) {
+        fails("conflicts where", reply.status);
+    }
+    free(marker.bytes);
+}
+
 /* Such a list through the commands, and its line as a requirement; nothing contradicts itself in it. */
 static void commands(int count) {
     static uint8_t out[8 << 20];
@@ -159,6 +175,7 @@ static void commands(int count) {
     if (reply.status != REQS_ANSWERED || reply.length != 0) {
         fails("conflicts", reply.status);
     }
+    assumed(list, count);
     free(list.bytes);
     free(one.bytes);
     free(where.bytes);

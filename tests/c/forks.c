@@ -85,6 +85,30 @@ static reqs_reply normal_json(uint8_t *out) {
     return reqs_normal_json(TEXT("A >= 1.0 ; os_name=='nt'\n"), 1000, 100, OUT);
 }
 
+static reqs_reply same_where(uint8_t *out) {
+    return reqs_same_where(TEXT("a>2\n"), TEXT("a>2\nb; os_name == 'nt'\n"), TEXT(MARKER), 4096, 1000, 100, 1000, OUT);
+}
+
+static reqs_reply covers_where(uint8_t *out) {
+    return reqs_covers_where(TEXT("a>2\n"), TEXT(REQUIREMENTS), TEXT(MARKER), 4096, 1000, 100, 1000, OUT);
+}
+
+static reqs_reply conflicts_where(uint8_t *out) {
+    return reqs_conflicts_where(TEXT("a<1\na>2\n"), TEXT(MARKER), 4096, 1000, 1000, OUT);
+}
+
+static reqs_reply same_where_json(uint8_t *out) {
+    return reqs_same_where_json(TEXT("a>2\n"), TEXT("a>2\nb; os_name == 'nt'\n"), TEXT(MARKER), 4096, 1000, 100, 1000, OUT);
+}
+
+static reqs_reply covers_where_json(uint8_t *out) {
+    return reqs_covers_where_json(TEXT("a>2\n"), TEXT("a>2\nb; os_name == 'nt'\n"), TEXT("os_name =="), 4096, 1000, 100, 1000, OUT);
+}
+
+static reqs_reply conflicts_where_json(uint8_t *out) {
+    return reqs_conflicts_where_json(TEXT("a<1\na>2\n"), TEXT("os_name == 'nt'"), 4096, 1000, 1000, OUT);
+}
+
 static reqs_reply version(uint8_t *out) {
     return reqs_version(TEXT("1.0-RC.1+a.b"), OUT);
 }
@@ -173,10 +197,11 @@ static reqs_reply markers_hold(uint8_t *out) {
     return reqs_markers_hold(TEXT(MARKER "\nx\n"), TEXT(ENVIRONMENT), TEXT("a\n"), OUT);
 }
 
-/* Each call of the header that takes memory, and three that are refused. */
+/* Each call of the header that takes memory, of which four are refused. */
 static reqs_reply (*const CALLS[])(uint8_t *) = {
     check, matrix, same, covers, conflicts, normal, check_json, matrix_json, same_json, covers_json, conflicts_json,
-    normal_json, version, no_version, version_key, version_order, specifiers, specifiers_take, specifiers_disjoint, specifiers_subset,
+    normal_json, same_where, covers_where, conflicts_where, same_where_json, covers_where_json, conflicts_where_json,
+    version, no_version, version_key, version_order, specifiers, specifiers_take, specifiers_disjoint, specifiers_subset,
     specifiers_empty, requirement, marker_check, marker, no_marker, too_many_nodes, marker_key, marker_truth, markers_disjoint, marker_implies,
     marker_negated, marker_simplify_python, marker_simplify_extras, markers_hold};
 #define COUNT (sizeof CALLS / sizeof *CALLS)

@@ -172,6 +172,17 @@ static int gives_number(uint64_t which) {
     return which == KEY || which == ABI;
 }
 
+/* Whether a call compares lists. */
+static int may_differ(uint64_t which) {
+    switch (which) {
+    case SAME: case COVERS: case SAME_WHERE: case COVERS_WHERE:
+    case SAME_JSON: case COVERS_JSON: case SAME_WHERE_JSON: case COVERS_WHERE_JSON:
+        return 1;
+    default:
+        return 0;
+    }
+}
+
 static void judge(const struct request *it, const reqs_reply *reply, const uint8_t *out) {
     if (gives_number(it->which)) {
         int64_t number = (int64_t)reply->length;
@@ -180,7 +191,7 @@ static void judge(const struct request *it, const reqs_reply *reply, const uint8
         }
         return;
     }
-    if (reply->status > REQS_REFUSED || (reply->status == REQS_DIFFERENT && it->which != SAME && it->which != SAME_JSON)) {
+    if (reply->status > REQS_REFUSED || (reply->status == REQS_DIFFERENT && !may_differ(it->which))) {
         stop("a status that the call doesn't give");
     }
     ended[reply->status] += 1;
@@ -269,7 +280,7 @@ static reqs_reply ask_both(const struct request *it, uint8_t *whole) {
 static void ask_all(const struct request *it) {
     static uint8_t text[SPACE], json[SPACE];
     reqs_reply first = ask_both(it, text);
-    if (it->which > NORMAL) {
+    if (it->which > CONFLICTS_WHERE) {
         return;
     }
     struct request as_json = *it;

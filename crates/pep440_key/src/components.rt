@@ -107,6 +107,10 @@ pub(crate) fn push_absent_last(key: &mut Vec<u8>, number: Option<u64>) -> Result
 
 /// Appends the bytes of a text, one for each byte below 252 and three for others, and a 0, which ends them:
 /// they sort as the texts do, and are no prefix of another text's.
+///
+/// # Errors
+///
+/// `AllocError` when memory runs out.
 pub fn push_text(key: &mut Vec<u8>, bytes: &[u8]) -> Result<(), AllocError>
     ensures { OnOk result (key.new.items ≡ key.old.items ++ component_bytes bytes.now) }
 {

@@ -18,6 +18,10 @@ use std::alloc::{AllocError, Global};
 /// a prefix of another version's, so that bytes may follow it, as the key of the next column.
 ///
 /// Linear in the version; takes memory for the key, which has 14 bytes for `1.2.3`.
+///
+/// # Errors
+///
+/// `AllocError` when memory runs out.
 pub fn version_key(alloc: Global, version: &Version) -> Result<Vec<u8>, AllocError>
     ensures { IfOk result (λ key. key.items ≡ version_bytes version.now) }
 {
@@ -56,69 +60,4 @@ fn push_suffixes(key: &mut Vec<u8>, version: &Version) -> Result<(), AllocError>
     push_post(key, version.post(), version.max())?;
     push_absent_first(key, version.min())?;
     push_absent_last(key, version.dev())
-}
-
-#[cfg(test)]
-mod tests {
-    use super::*;
-    use std::test::Fail;
-
-    // PEP 440, "Summary of permitted suffixes and relative ordering", with epochs, large numbers and a number
-    // of each length.
-    const RISING: [&str; 27] = [
-        "0",
-        "1.dev0",
-        "1.0.dev456",
-        "1.0a1",
-        "1.0a2.dev456",
-        "1.0a12.dev456",
-        "1.0a12",
-        "1.0b1.dev456",
-        "1.0b2",
-        "1.0b2.post345.dev456",
-        "1.0b2.post345",
-        "1.0rc1.dev456",
-        "1.0rc1",
-        "1.0",
-        "1.0+abc.5",
-        "1.0+abc.7",
-        "1.0+5",
-        "1.0.post456.dev34",
-        "1.0.post456",
-        "1.0.15",
-        "1.1.dev1",
-        "1.251",
-        "1.252",
-        "1.65536",
-        "1.4294967296",
-        "1.18446744073709551615",
-        "1!0",
-    ];
-
-    fn is_below(alloc: Global, low: &str, high: &str) -> Result<bool, Fail> {
-        let low = version_key(alloc, &Version::from_str(alloc, low)?)?;
-        let high = version_key(alloc, &Version::from_str(alloc, high)?)?;
-        Ok(low.as_slice() < high.as_slice())
-    }
-
-    #[test]
-    fn keys_rise(rt: HostRuntime) -> Result<(), Fail> {
-        let mut low = "0.dev0";
-        for high in RISING {
-            assert!(rt; is_below(rt.alloc(), low, high)?, "{low} before {high}");
-            low = high;
-        }
-        Ok(())
-    }
-
-    #[test]
-    fn keys_are_short(rt: HostRuntime) -> Result<(), Fail> {
-        let version = Version::from_str(rt.alloc(), "1.2.3.0")?;
-        let key = version_key(rt.alloc(), &version)?;
-        assert_eq!(rt;
-            key.as_slice(),
-            [1, 0, 2, 3, 4, 0, 6, 0, 0, 0, 0, 2, 0, 0].as_slice()
-        );
-        Ok(())
-    }
 }

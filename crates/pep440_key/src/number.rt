@@ -16,6 +16,10 @@ const EIGHT_FOLLOW: u8 = 255;
 
 /// Appends the bytes of a number, 1 to 9 of them, which are no prefix of another number's. They sort as the
 /// numbers do.
+///
+/// # Errors
+///
+/// `AllocError` when memory runs out.
 #[tactic(auto, unfolding(crate::specs::Key::number_bytes))]
 pub fn push_number(key: &mut Vec<u8>, number: u64) -> Result<(), AllocError>
     ensures { OnOk result (key.new.items ≡ key.old.items ++ number_bytes number) }

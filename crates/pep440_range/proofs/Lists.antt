@@ -1,6 +1,6 @@
 -- Lists: what all ranges of the members hold, where each member agrees with its range.
-use Rattle.std.proofs.Common.{◌≡◌, Bool, true, false, ◌&&◌, List, [], ◌∷◌, map, Option, Some, None}
-use Rattle.std.proofs.Common.{is_some, inl, inr, refl, sym, true≢false}
+use Rattle.std.proofs.Common.{◌≡◌, ℕ, Bool, true, false, ◌&&◌, List, [], ◌∷◌, map, Option, Some, None}
+use Rattle.std.proofs.Common.{is_some, is_none, inl, inr, refl, sym, true≢false}
 use Rattle.std.specs.List.{All, AllByRecursion, list_all}
 use Rattle.std.proofs.lemmas.List.Elements.{recursion_from_All}
 use Rattle.version_ranges.specs.Point.{Point, At}
@@ -14,7 +14,7 @@ use Rattle.pep440_operator.specs.declared.operator.Operator.TheVariants.{Greater
 use Rattle.pep440_specifier.specs.Matching.{SpecifierRecord, takes}
 use Rattle.pep440_specifier_list.specs.Lists.{matches_all}
 use Rattle.pep440_range.specs.Ranges.{PointTest, range_holds, range_of}
-use Rattle.pep440_range.specs.Agreement.{IsSaid, Agrees, AgreesBesidePosts, IsAgreeing, IsWithoutPosts}
+use Rattle.pep440_range.specs.Agreement.{IsSaid, Agrees, agrees_beside_posts, IsAgreeing, IsWithoutPosts}
 use Rattle.pep440_range.proofs.Agreeing.{agrees}
 
 -- a member takes the candidate just where its range holds it
@@ -49,18 +49,22 @@ pub agreeing : (candidate : VersionRecord) → IsSaid candidate → candidate.lo
 agreeing candidate said plain member m test e =
     agrees member.operator member.version candidate test m.built.local m.said said plain m.agrees e
 
+no_post : (post : Option ℕ) → is_none post ≡ true → post ≡ None
+no_post None e = refl
+no_post (Some n) e = absurd (true≢false (sym e))
+
 -- beside a candidate that is no post-release
 beside_posts : (operator : Operator) (version candidate : VersionRecord) → candidate.post ≡ None
-    → AgreesBesidePosts operator version → Agrees operator version candidate
+    → agrees_beside_posts operator version ≡ true → Agrees operator version candidate
 beside_posts Equal version candidate none h = tt
 beside_posts EqualStar version candidate none h = tt
-beside_posts ExactEqual version candidate none h = h
+beside_posts ExactEqual version candidate none h = absurd (true≢false (sym h))
 beside_posts NotEqual version candidate none h = tt
 beside_posts NotEqualStar version candidate none h = tt
 beside_posts TildeEqual version candidate none h = tt
-beside_posts LessThan version candidate none h = inr h
+beside_posts LessThan version candidate none h = inr (no_post version.post h)
 beside_posts LessThanEqual version candidate none h = tt
-beside_posts GreaterThan version candidate none h = inl (inr (h, none))
+beside_posts GreaterThan version candidate none h = inl (inr (no_post version.post h, none))
 beside_posts GreaterThanEqual version candidate none h = tt
 
 pub without_posts : (candidate : VersionRecord) → candidate.post ≡ None → (member : SpecifierRecord)

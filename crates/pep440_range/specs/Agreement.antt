@@ -1,5 +1,5 @@
 -- Where ranges and matching agree.
-use Rattle.std.specs.Prelude.{◌≡◌, ◌⊎◌, false, None, []}
+use Rattle.std.specs.Prelude.{◌≡◌, ◌⊎◌, Bool, true, false, None, is_none, []}
 use Rattle.pep440_version.specs.Record.{VersionRecord}
 use Rattle.pep440_operator.specs.declared.operator.Operator.{Operator}
 use Rattle.pep440_operator.specs.declared.operator.Operator.TheVariants.{Equal, EqualStar, ExactEqual}
@@ -42,17 +42,17 @@ Agrees GreaterThanEqual version candidate = Unit {0}
 
 -- where this is so for each candidate that is not a post-release: not for `===`, nor for `<` and `>` of a
 -- post-release
-abbrev pub AgreesBesidePosts : Operator → VersionRecord → Type 0
-AgreesBesidePosts Equal version = Unit {0}
-AgreesBesidePosts EqualStar version = Unit {0}
-AgreesBesidePosts ExactEqual version = ⊥
-AgreesBesidePosts NotEqual version = Unit {0}
-AgreesBesidePosts NotEqualStar version = Unit {0}
-AgreesBesidePosts TildeEqual version = Unit {0}
-AgreesBesidePosts LessThan version = version.post ≡ None
-AgreesBesidePosts LessThanEqual version = Unit {0}
-AgreesBesidePosts GreaterThan version = version.post ≡ None
-AgreesBesidePosts GreaterThanEqual version = Unit {0}
+abbrev pub agrees_beside_posts : Operator → VersionRecord → Bool
+agrees_beside_posts ExactEqual version = false
+agrees_beside_posts LessThan version = is_none version.post
+agrees_beside_posts GreaterThan version = is_none version.post
+agrees_beside_posts Equal version = true
+agrees_beside_posts EqualStar version = true
+agrees_beside_posts NotEqual version = true
+agrees_beside_posts NotEqualStar version = true
+agrees_beside_posts TildeEqual version = true
+agrees_beside_posts LessThanEqual version = true
+agrees_beside_posts GreaterThanEqual version = true
 
 -- where this is so for each candidate: not for `===`, nor for `<` of a post-release, nor for `>` of
 -- anything but a final release
@@ -78,7 +78,7 @@ pub record IsAgreeing (candidate : VersionRecord) (specifier : SpecifierRecord) 
 pub record IsWithoutPosts (specifier : SpecifierRecord) : Type 0 where
   pub built : IsBuilt specifier
   pub said : IsSaid specifier.version
-  pub agrees : AgreesBesidePosts specifier.operator specifier.version
+  pub agrees : agrees_beside_posts specifier.operator specifier.version ≡ true
 
 -- a specifier as texts say it, without a local part, which agrees with its range at each candidate
 pub record IsSimple (specifier : SpecifierRecord) : Type 0 where

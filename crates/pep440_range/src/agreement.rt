@@ -1,7 +1,7 @@
 //! Operators and versions by which a specifier's range decides what the specifier accepts.
 
-ghost use Rattle.std.specs.Prelude.{◌↔◌, IsTrue};
-ghost use Rattle.pep440_range.specs.Agreement.{IsFinal, AgreesBesidePosts, AgreesEverywhere};
+ghost use Rattle.std.specs.Prelude.{◌≡◌, ◌↔◌, IsTrue};
+ghost use Rattle.pep440_range.specs.Agreement.{IsFinal, agrees_beside_posts, AgreesEverywhere};
 
 use pep440_specifier::Operator;
 use pep440_version::Version;
@@ -11,7 +11,7 @@ use pep440_version::Version;
 ///
 /// It does not for `===`, nor for `<` and `>` with a post-release (PEP 440, "Exclusive ordered comparison").
 pub fn agrees_beside_posts(operator: Operator, version: &Version) -> bool
-    ensures { IsTrue result ↔ AgreesBesidePosts operator version.now }
+    ensures { result ≡ agrees_beside_posts operator version.now }
 {
     match operator {
         Operator::ExactEqual => false,

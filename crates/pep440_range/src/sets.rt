@@ -24,6 +24,10 @@ pub(crate) fn point(alloc: Global, version: Version) -> Result<Ranges<Version>, 
 }
 
 /// Returns the set from the version on, the version included.
+///
+/// # Errors
+///
+/// `RangeError::Memory` when memory runs out.
 pub fn from(alloc: Global, version: Version) -> Result<Ranges<Version>, RangeError>
     ensures { Gives result (Some (from_bound (Included version))) }
 {
@@ -45,6 +49,10 @@ pub(crate) fn to(alloc: Global, version: Version) -> Result<Ranges<Version>, Ran
 }
 
 /// Returns the set of what is below a version.
+///
+/// # Errors
+///
+/// `RangeError::Memory` when memory runs out.
 pub fn below(alloc: Global, version: Version) -> Result<Ranges<Version>, RangeError>
     ensures { Gives result (Some (to_bound (Excluded version))) }
 {
@@ -52,6 +60,10 @@ pub fn below(alloc: Global, version: Version) -> Result<Ranges<Version>, RangeEr
 }
 
 /// Returns the set from a version on, up to and without another version.
+///
+/// # Errors
+///
+/// `RangeError::Memory` when memory runs out.
 pub fn up_to(alloc: Global, first: Version, end: Version) -> Result<Ranges<Version>, RangeError>
     ensures { Gives result (Some (up_to first end)) }
 {

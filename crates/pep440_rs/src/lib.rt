@@ -6,8 +6,10 @@
 //! ```text
 //! let version = Version::from_str(alloc, "1.19")?;
 //! let wanted = VersionSpecifiers::from_str(alloc, ">=1.16, <2")?;
-//! let is_taken = wanted.contains(alloc, &version)?;
+//! let is_accepted = wanted.contains(alloc, &version)?;
 //! ```
+//!
+//! `crates/pep440_tests/src/calling.rt` has these calls as a function with a proved contract.
 //!
 //! This crate re-exports what the crates below it offer.
 

@@ -107,6 +107,10 @@ impl VersionSpecifier {
     /// bound that there is.
     ///
     /// Takes memory for copies of the versions and for the list.
+    ///
+    /// # Errors
+    ///
+    /// `AllocError` when memory runs out.
     pub fn from_release_only_bounds(
         alloc: Global,
         bounds: (Bound<&Version>, Bound<&Version>),

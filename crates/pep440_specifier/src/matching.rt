@@ -17,6 +17,10 @@ impl VersionSpecifier {
     ///
     /// Goes a fixed number of times through both versions. Takes memory for `===` alone, which compares
     /// prints, and fails only where memory for these ran out.
+    ///
+    /// # Errors
+    ///
+    /// `AllocError` when memory runs out.
     pub fn contains(&self, alloc: Global, version: &Version) -> Result<bool, AllocError>
         ensures matching { IfOk result (λ taken.
             taken ≡ matches self.now.operator self.now.version version.now) }

@@ -244,6 +244,10 @@ impl VersionSpecifier {
     }
 
     /// Returns a copy, in memory of its own.
+    ///
+    /// # Errors
+    ///
+    /// `AllocError` when memory runs out.
     pub fn try_clone(&self, alloc: Global) -> Result<VersionSpecifier, AllocError>
         ensures { IfOk result (λ copy. copy ≡ self.now) }
     {

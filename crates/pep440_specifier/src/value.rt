@@ -16,6 +16,10 @@ use std::alloc::{AllocError, Global};
 
 impl VersionSpecifier {
     /// Returns the specifier as a JSON text: its print. Takes memory for the text.
+    ///
+    /// # Errors
+    ///
+    /// `AllocError` when memory runs out.
     pub fn to_value(&self, alloc: Global) -> Result<Value, AllocError>
         ensures { IfOk result (λ value. as_str (view value) ≡ Some (specifier_text self.now)) }
     {

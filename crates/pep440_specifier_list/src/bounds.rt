@@ -28,6 +28,10 @@ impl VersionSpecifiers {
     ///
     /// Linear in the intervals, but for sorting the members. Takes memory for the list and copies of
     /// versions, and none where there are no intervals.
+    ///
+    /// # Errors
+    ///
+    /// `AllocError` when memory runs out.
     pub fn from_release_only_bounds(
         alloc: Global,
         bounds: &[(Bound<&Version>, Bound<&Version>)],

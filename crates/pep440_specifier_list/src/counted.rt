@@ -36,6 +36,10 @@ impl CountedSpecifiers {
 
     /// Returns whether the list accepts the version, as `contains` does. Each member that is tested is
     /// counted, also one that runs out of memory, which is the last.
+    ///
+    /// # Errors
+    ///
+    /// `AllocError` when memory runs out.
     pub fn contains_counted(&mut self, alloc: Global, version: &Version) -> Result<bool, AllocError>
         ensures answer { IfOk result (λ taken. taken ≡ matches_all self.old.members version.now) }
         ensures count { OnOk result (self.new ≡ counted self.old (asked self.old.members version.now)) }

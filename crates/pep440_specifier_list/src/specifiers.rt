@@ -47,6 +47,10 @@ impl VersionSpecifiers {
 
     /// Returns the list of these members, which it sorts by version. Takes memory for more than 20 of them
     /// alone.
+    ///
+    /// # Errors
+    ///
+    /// `AllocError` when memory runs out.
     pub fn from_specifiers(
         _alloc: Global,
         specifiers: Vec<VersionSpecifier>,
@@ -59,6 +63,10 @@ impl VersionSpecifiers {
     }
 
     /// Returns the list of this one member. Takes memory for its place.
+    ///
+    /// # Errors
+    ///
+    /// `AllocError` when memory runs out.
     pub fn from_specifier(
         alloc: Global,
         specifier: VersionSpecifier,
@@ -108,6 +116,10 @@ impl VersionSpecifiers {
     ///
     /// Tests the members in order, up to the first that rejects. Takes memory for members of `===` alone,
     /// which compare prints, and fails only where memory for these ran out.
+    ///
+    /// # Errors
+    ///
+    /// `AllocError` when memory runs out.
     pub fn contains(&self, alloc: Global, version: &Version) -> Result<bool, AllocError>
         ensures matching { IfOk result (λ taken. taken ≡ matches_all self.now version.now) }
         ensures memory { All (λ s. s.operator ≢ ExactEqual) self.now → IsOk result }
@@ -124,6 +136,10 @@ impl VersionSpecifiers {
     }
 
     /// Returns a copy, in memory of its own.
+    ///
+    /// # Errors
+    ///
+    /// `AllocError` when memory runs out.
     pub fn try_clone(&self, alloc: Global) -> Result<VersionSpecifiers, AllocError>
         ensures { IfOk result (λ copy. copy ≡ self.now) }
     {

@@ -15,6 +15,10 @@ use std::alloc::{AllocError, Global};
 impl VersionSpecifiers {
     /// Returns the list as a JSON text: its members with bare commas between them. Takes memory for the
     /// text.
+    ///
+    /// # Errors
+    ///
+    /// `AllocError` when memory runs out.
     pub fn to_value(&self, alloc: Global) -> Result<Value, AllocError>
         ensures { IfOk result (λ value. as_str (view value) ≡ Some (list_value_text self.now)) }
     {

@@ -52,6 +52,10 @@ pub enum LocalSegment {
 
 impl LocalSegment {
     /// Returns a copy, in memory of its own.
+    ///
+    /// # Errors
+    ///
+    /// `AllocError` when memory runs out.
     pub fn try_clone(&self, alloc: Global) -> Result<LocalSegment, AllocError>
         ensures { IfOk result (λ copy. segment_of copy ≡ segment_of self.now) }
     {

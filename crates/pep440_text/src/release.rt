@@ -33,6 +33,10 @@ fn few(numbers: &[u64]) -> Option<Release>
 
 impl Release {
     /// Returns a release of these numbers. Takes memory for more than three.
+    ///
+    /// # Errors
+    ///
+    /// `AllocError` when memory runs out.
     pub fn from_slice(alloc: Global, numbers: &[u64]) -> Result<Release, AllocError>
         ensures { IfOk result (λ release. numbers_of release ≡ numbers.now) }
     {

@@ -4,6 +4,7 @@
 #![tactic(auto)]
 
 pub mod laws;
+pub mod lent;
 mod ordering;
 mod packing;
 mod parse_error;
@@ -20,6 +21,3 @@ pub use pattern::VersionPattern;
 pub use pep440_text::{LocalSegment, Prerelease, PrereleaseKind};
 pub use read_outcome::FromValueError;
 pub use version::Version;
-
-#[cfg(test)]
-mod tests;

@@ -80,6 +80,10 @@ impl VersionPattern {
     }
 
     /// Returns a copy, in memory of its own.
+    ///
+    /// # Errors
+    ///
+    /// `AllocError` when memory runs out.
     pub fn try_clone(&self, alloc: Global) -> Result<VersionPattern, AllocError>
         ensures { IfOk result (λ copy. copy ≡ self.now) }
     {

@@ -16,6 +16,10 @@ use std::alloc::{AllocError, Global};
 
 impl Version {
     /// Returns an early version, `0a0.dev0`. Some versions are below it, as `0.dev0`.
+    ///
+    /// # Errors
+    ///
+    /// `AllocError` when memory runs out.
     pub fn min_version(alloc: Global) -> Result<Version, AllocError>
         ensures { IfOk result (λ version. version ≡ early_version) }
     {
@@ -44,6 +48,10 @@ impl Version {
     }
 
     /// Returns the version with other release numbers, at least one. Takes memory for more than three.
+    ///
+    /// # Errors
+    ///
+    /// `AllocError` when memory runs out.
     pub fn with_release(mut self, alloc: Global, release: &[u64]) -> Result<Version, AllocError>
         requires { 0 < length release.now }
         ensures { IfOk result (λ version. version ≡ record self { release = release.now }) }
@@ -176,6 +184,10 @@ impl Version {
 
     /// Returns the version of the release numbers alone, without epoch and suffixes. Takes memory for more
     /// than three.
+    ///
+    /// # Errors
+    ///
+    /// `AllocError` when memory runs out.
     pub fn only_release(&self, alloc: Global) -> Result<Version, AllocError>
         ensures { IfOk result (λ version. version ≡ release_record self.now.release) }
     {

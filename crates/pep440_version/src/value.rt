@@ -14,6 +14,10 @@ use std::alloc::{AllocError, Global};
 
 impl Version {
     /// Returns the version as a JSON text: its print. Takes memory for the text.
+    ///
+    /// # Errors
+    ///
+    /// `AllocError` when memory runs out.
     pub fn to_value(&self, alloc: Global) -> Result<Value, AllocError>
         ensures { IfOk result (λ value. as_str (view value) ≡ Some (version_text self.now)) }
     {

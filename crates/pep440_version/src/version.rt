@@ -50,6 +50,10 @@ impl Model for Version {
 impl Version {
     /// Returns the version with these release numbers and no other part. Takes memory for more than three
     /// numbers.
+    ///
+    /// # Errors
+    ///
+    /// `AllocError` when memory runs out.
     pub fn new(alloc: Global, release: &[u64]) -> Result<Version, AllocError>
         requires { 0 < length release.now }
         ensures { IfOk result (λ version. version ≡ release_record release.now) }
@@ -123,6 +127,10 @@ impl Version {
     }
 
     /// Returns a copy, in memory of its own.
+    ///
+    /// # Errors
+    ///
+    /// `AllocError` when memory runs out.
     pub fn try_clone(&self, alloc: Global) -> Result<Version, AllocError>
         ensures { IfOk result (λ copy. copy ≡ self.now) }
     {

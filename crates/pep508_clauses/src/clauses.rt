@@ -30,6 +30,10 @@ use std::alloc::{AllocError, Global};
 ///
 /// The clauses of n flags with `or` between them, of one to n terms, take some n * n look-ups of a hash,
 /// and n * n * n / 6 comparisons of two hashes.
+///
+/// # Errors
+///
+/// `AllocError` when memory runs out.
 pub fn simplified_clauses(
     alloc: Global,
     clauses: Vec<Vec<MarkerExpression>>,
@@ -43,6 +47,10 @@ pub fn simplified_clauses(
 
 /// Returns the text of clauses, with `or` between them; a clause of several terms among others is in
 /// brackets. Linear in the text.
+///
+/// # Errors
+///
+/// `AllocError` when memory runs out.
 pub fn clauses_text(alloc: Global, clauses: &[Vec<MarkerExpression>]) -> Result<String, AllocError>
     ensures { IfOk result (λ text. string_bytes text ≡ clauses_text (clauses_shown clauses.now)) }
 {

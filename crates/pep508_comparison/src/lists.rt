@@ -22,6 +22,10 @@ use version_ranges::Ranges;
 ///
 /// The sets of the two halves of the list are joined, so that n versions take O(n log n) comparisons of
 /// versions. Takes memory for the bounds.
+///
+/// # Errors
+///
+/// `AllocError` when memory runs out.
 pub fn listed_range(
     alloc: Global,
     negated: bool,

@@ -245,6 +245,10 @@ const FEW: usize = 4;
 /// Otherwise the trees are sorted by the variables that they test first, and of those that test one key, or
 /// one flag each, one node for each variable is made; of others the conjunctions of both halves, and then
 /// theirs.
+///
+/// # Errors
+///
+/// `AllocError` when memory runs out.
 pub fn conjunction_of_all(
     alloc: Global,
     interner: &mut Interner,

@@ -6,7 +6,7 @@
 
 mod all;
 mod borrowed_nodes;
-mod lent;
+mod borrowed_value;
 mod meet;
 mod owned;
 mod variable_order;

@@ -7,7 +7,7 @@ ghost use Rattle.pep508_diagram.specs.Branches.{RisingBranches, NeighboursDiffer
 ghost use Rattle.pep508_conjunctions.specs.Meets.{met, truth_at, all_true, source_truth, AreLent, IsLeaf};
 
 use crate::borrowed_nodes::{Source, truth_in};
-use crate::lent::LentValue;
+use crate::borrowed_value::LentValue;
 use pep508_diagram::{Branch, NodeValue, paired};
 use std::alloc::{AllocError, Global};
 use version_ranges::Boundary;

@@ -5,7 +5,7 @@ ghost use Rattle.pep508_tree.specs.Tree.{constant};
 ghost use Rattle.pep508_tree.specs.Leaves.{constant_branch};
 ghost use Rattle.pep508_conjunctions.specs.Meets.{AreSame};
 
-use crate::lent::LentValue;
+use crate::borrowed_value::LentValue;
 use crate::meet::Truths;
 use pep508_diagram::{Branch, NodeValue};
 use pep508_tree::MarkerTree;

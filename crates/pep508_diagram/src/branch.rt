@@ -1,9 +1,10 @@
 //! Branches: what holds between rising endpoints.
 
-ghost use Rattle.std.specs.Prelude.{◌≡◌, [], IfOk, MatchOption};
+ghost use Rattle.std.specs.Prelude.{◌≡◌, [], ◌++◌, map, IfOk, OnOk, MatchOption};
 ghost use Rattle.version_ranges.specs.Point.{Point, At};
 ghost use Rattle.pep508_diagram.specs.Branches.{RisingBranches, branch_at, AllBranches};
 ghost use Rattle.pep508_diagram.specs.Chains.{IsChild};
+ghost use Rattle.pep508_diagram.specs.Joining.{joined_by};
 ghost use Rattle.pep508_diagram.specs.Pairing.{IsNext, AreChildPairs};
 
 use crate::node_value::NodeValue;
@@ -67,7 +68,11 @@ fn next_branch<'a, T: Ord, C: Copy>(
 }
 
 /// Returns an identical copy of an endpoint.
-pub(crate) fn copy_of<T: NodeValue>(
+///
+/// # Errors
+///
+/// `AllocError` when memory runs out.
+pub fn copy_of_boundary<T: NodeValue>(
     alloc: Global,
     boundary: &Boundary<T>,
 ) -> Result<Boundary<T>, AllocError>
@@ -79,8 +84,65 @@ pub(crate) fn copy_of<T: NodeValue>(
     })
 }
 
+/// Appends the child of each branch, in order.
+///
+/// # Errors
+///
+/// `AllocError` when memory runs out.
+pub fn add_children<T, C: Copy>(
+    children: &mut Vec<C>,
+    later: &[Branch<T, C>],
+) -> Result<(), AllocError>
+    ensures { OnOk result (children.new.items
+        ≡ children.old.items ++ map (λ branch. branch.child) later.now) }
+{
+    for branch in later {
+        children.push(branch.child)?;
+    }
+    Ok(())
+}
+
+/// Returns branches at the same endpoints with other children. Where neighbours are equal, the endpoint
+/// between them is left out; branches that no child is left for are too.
+///
+/// # Errors
+///
+/// `AllocError` when memory runs out.
+#[tactic(auto, using(crate::proofs::Joined::joined_none))]
+pub fn rejoined<T: Drop, C: Drop, D: Copy + PartialEq>(
+    alloc: Global,
+    first: D,
+    later: Vec<Branch<T, C>>,
+    children: &[D],
+) -> Result<Vec<Branch<T, D>>, AllocError>
+    ensures { IfOk result (λ branches. branches.items ≡ joined_by D.eq first later.items children.now) }
+{
+    let mut branches = Vec::new(alloc);
+    let mut last = first;
+    let mut left = children;
+    for branch in later {
+        let Some((next, rest)) = left.split_first() else {
+            return Ok(branches);
+        };
+        left = rest;
+        if *next == last {
+            continue;
+        }
+        last = *next;
+        branches.push(Branch {
+            boundary: branch.boundary,
+            child: last,
+        })?;
+    }
+    Ok(branches)
+}
+
 /// Merges two lists of branches into one of pairs: at each point the child is the pair of the first list's
 /// child and the second's. One pass over both, which copies each endpoint once.
+///
+/// # Errors
+///
+/// `AllocError` when memory runs out.
 pub fn paired<T: NodeValue, C: Copy>(
     alloc: Global,
     first: C,
@@ -110,7 +172,7 @@ pub fn paired<T: NodeValue, C: Copy>(
         (child, left) = next;
         (other_child, other_left) = other_next;
         pairs.push(Branch {
-            boundary: copy_of(alloc, boundary)?,
+            boundary: copy_of_boundary(alloc, boundary)?,
             child: (child, other_child),
         })?;
     }
@@ -119,6 +181,10 @@ pub fn paired<T: NodeValue, C: Copy>(
 
 /// Returns the pairs of the children of two lists of branches, in order: the children of `paired`'s result.
 /// One pass over both, which copies no endpoint.
+///
+/// # Errors
+///
+/// `AllocError` when memory runs out.
 pub fn paired_children<T: Ord, C: Copy>(
     alloc: Global,
     first: C,

@@ -5,7 +5,7 @@ ghost use Rattle.std.specs.Prelude.{◌≡◌, IfOk, map};
 ghost use Rattle.pep508_diagram.specs.Branches.{by_turns};
 ghost use Rattle.pep508_diagram.specs.Shortened.{shortest, shortened, shortened_branch};
 
-use crate::branch::{Branch, copy_of};
+use crate::branch::{Branch, copy_of_boundary};
 use crate::node_value::NodeValue;
 use pep440_version::Version;
 use std::alloc::{AllocError, Global};
@@ -13,6 +13,10 @@ use version_ranges::Boundary;
 
 /// Returns the branches of a set that holds the point below all where `starts_held`, and at each of whose
 /// endpoints membership flips. Copies each endpoint once.
+///
+/// # Errors
+///
+/// `AllocError` when memory runs out.
 pub fn turned_branches<T: NodeValue>(
     alloc: Global,
     starts_held: bool,
@@ -25,7 +29,7 @@ pub fn turned_branches<T: NodeValue>(
     for boundary in boundaries {
         child = !child;
         branches.push(Branch {
-            boundary: copy_of(alloc, boundary)?,
+            boundary: copy_of_boundary(alloc, boundary)?,
             child,
         })?;
     }
@@ -55,6 +59,10 @@ fn shortened(boundary: Boundary<Version>) -> Boundary<Version>
 
 /// Returns the branches with each endpoint at its version's shortest spelling, which is the same place.
 /// Copies no version. The only error is lack of memory.
+///
+/// # Errors
+///
+/// `AllocError` when memory runs out.
 pub fn shortened_branches<C: Drop>(
     alloc: Global,
     later: Vec<Branch<Version, C>>,

@@ -12,7 +12,9 @@ mod marker_text;
 mod node_value;
 mod variable;
 
-pub use branch::{Branch, branch_at, paired, paired_children};
+pub use branch::{
+    Branch, add_children, branch_at, copy_of_boundary, paired, paired_children, rejoined,
+};
 pub use by_turns::{shortened_branches, turned_branches};
 pub use marker_text::MarkerText;
 pub use node_value::NodeValue;

@@ -33,6 +33,10 @@ impl Model for MarkerText {
 
 impl MarkerText {
     /// Returns a copy of a text.
+    ///
+    /// # Errors
+    ///
+    /// `AllocError` when memory runs out.
     pub fn copy_of(alloc: Global, text: &str) -> Result<MarkerText, AllocError>
         ensures { IfOk result (λ copy. copy ≡ text.now) }
     {

@@ -76,6 +76,10 @@ impl Flag {
     }
 
     /// Returns a copy. The only error is lack of memory.
+    ///
+    /// # Errors
+    ///
+    /// `AllocError` when memory runs out.
     pub fn try_clone(&self, alloc: Global) -> Result<Flag, AllocError>
         ensures { IfOk result (λ copy. copy ≡ self.now) }
     {

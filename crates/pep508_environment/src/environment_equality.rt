@@ -15,6 +15,10 @@ use std::hash::{Hash, Hasher};
 
 impl MarkerEnvironment {
     /// Returns a copy, in memory of its own.
+    ///
+    /// # Errors
+    ///
+    /// `AllocError` when memory runs out.
     pub fn try_clone(&self, alloc: Global) -> Result<MarkerEnvironment, AllocError>
         ensures { IfOk result (λ copy. copy ≡ self.now) }
     {

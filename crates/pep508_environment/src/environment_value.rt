@@ -11,6 +11,10 @@ use std::alloc::{AllocError, Global};
 impl MarkerEnvironment {
     /// Returns the environment as a JSON value: an object with the eleven members as texts, versions as
     /// they were given. Takes memory for copies of the texts.
+    ///
+    /// # Errors
+    ///
+    /// `AllocError` when memory runs out.
     pub fn to_value(&self, alloc: Global) -> Result<Value, AllocError>
         ensures { IfOk result (λ value. view value ≡ environment_value self.now) }
     {

@@ -28,6 +28,10 @@ pub struct StringVersion {
 
 impl StringVersion {
     /// Returns a version with its print as the text. Takes memory for the text.
+    ///
+    /// # Errors
+    ///
+    /// `AllocError` when memory runs out.
     pub fn from_version(alloc: Global, version: Version) -> Result<StringVersion, AllocError>
         ensures version { IfOk result (λ made. made.version ≡ version) }
         ensures text { IfOk result (λ made. string_bytes made.string ≡ version_text version) }
@@ -55,6 +59,10 @@ impl StringVersion {
     }
 
     /// Returns a copy, in memory of its own.
+    ///
+    /// # Errors
+    ///
+    /// `AllocError` when memory runs out.
     pub fn try_clone(&self, alloc: Global) -> Result<StringVersion, AllocError>
         ensures version { IfOk result (λ copy. copy.version ≡ self.now.version) }
         ensures text { IfOk result (λ copy. string_bytes copy.string ≡ string_bytes self.now.string) }
@@ -66,6 +74,10 @@ impl StringVersion {
     }
 
     /// Returns the text as a JSON text. Takes memory for it.
+    ///
+    /// # Errors
+    ///
+    /// `AllocError` when memory runs out.
     pub fn to_value(&self, alloc: Global) -> Result<Value, AllocError>
         ensures { IfOk result (λ value. as_str (view value) ≡ Some (string_bytes self.now.string)) }
     {

@@ -109,6 +109,10 @@ fn any_text_tree(
 /// Returns the tree that holds where any comparison does: nowhere where a number that has to be raised is
 /// the greatest of 64 bits, or where texts are compared by `~=`. It isn't counted, and costs what
 /// `MarkerTreeExpression::expression` does; earlier trees keep their meaning, also after an error.
+///
+/// # Errors
+///
+/// `AllocError` when memory runs out.
 #[tactic(auto, unfolding(crate::specs::Expressions::expression_holds))]
 pub fn comparison_tree(
     alloc: Global,

@@ -92,6 +92,10 @@ fn listed_raises(
 /// Returns whether each number of a comparison that has to be raised can be, as it is less than the
 /// greatest of 64 bits. Looks at the numbers; only where one is the greatest, or for `~=`, the range is
 /// made, and takes memory.
+///
+/// # Errors
+///
+/// `AllocError` when memory runs out.
 #[tactic(auto, unfolding(crate::specs::Expressions::has_points))]
 pub fn has_points(alloc: Global, expression: &MarkerExpression) -> Result<bool, AllocError>
     ensures { IfOk result (λ answer. answer ≡ has_points (expression_of expression.now)) }

@@ -59,6 +59,10 @@ impl MarkerFormula {
     }
 
     /// Appends a comparison.
+    ///
+    /// # Errors
+    ///
+    /// `AllocError` when memory runs out.
     pub fn say(&mut self, alloc: Global, expression: MarkerExpression) -> Result<(), AllocError>
         ensures { OnOk result (self.new ≡ self.old ++ Compared (expression_of expression) ∷ []) }
     {
@@ -72,6 +76,10 @@ impl MarkerFormula {
     }
 
     /// Appends a comparison that is left out.
+    ///
+    /// # Errors
+    ///
+    /// `AllocError` when memory runs out.
     pub fn leave_out(&mut self) -> Result<(), AllocError>
         ensures { OnOk result (self.new ≡ self.old ++ Passed ∷ []) }
     {
@@ -80,6 +88,10 @@ impl MarkerFormula {
     }
 
     /// Joins the last two formulas by `and`.
+    ///
+    /// # Errors
+    ///
+    /// `AllocError` when memory runs out.
     pub fn and(&mut self) -> Result<(), AllocError>
         ensures { OnOk result (self.new ≡ self.old ++ ByAnd ∷ []) }
     {
@@ -88,6 +100,10 @@ impl MarkerFormula {
     }
 
     /// Joins the last two formulas by `or`.
+    ///
+    /// # Errors
+    ///
+    /// `AllocError` when memory runs out.
     pub fn or(&mut self) -> Result<(), AllocError>
         ensures { OnOk result (self.new ≡ self.old ++ ByOr ∷ []) }
     {

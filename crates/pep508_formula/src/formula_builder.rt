@@ -45,6 +45,10 @@ impl FormulaBuilder {
     }
 
     /// Adds a comparison as the next piece.
+    ///
+    /// # Errors
+    ///
+    /// `AllocError` when memory runs out.
     pub fn say(&mut self, alloc: Global, expression: MarkerExpression) -> Result<(), AllocError>
         ensures { OnOk result ((begun : Begun) (waiting : List Begun) → Stands self.old None begun waiting →
             Stands self.new (Some (Says (expression_of expression))) begun waiting) }
@@ -53,6 +57,10 @@ impl FormulaBuilder {
     }
 
     /// Adds that the next piece is left out.
+    ///
+    /// # Errors
+    ///
+    /// `AllocError` when memory runs out.
     pub fn leave_out(&mut self) -> Result<(), AllocError>
         ensures { OnOk result ((begun : Begun) (waiting : List Begun) → Stands self.old None begun waiting →
             Stands self.new (Some LeftOut) begun waiting) }
@@ -61,6 +69,10 @@ impl FormulaBuilder {
     }
 
     /// Opens a bracket: a formula begins, and the one around it waits.
+    ///
+    /// # Errors
+    ///
+    /// `AllocError` when memory runs out.
     pub fn open(&mut self) -> Result<(), AllocError>
         ensures { OnOk result ((begun : Begun) (waiting : List Begun) → Stands self.old None begun waiting →
             Stands self.new None nothing (begun ∷ waiting)) }
@@ -74,6 +86,10 @@ impl FormulaBuilder {
     }
 
     /// Appends the piece to the chain of `and`.
+    ///
+    /// # Errors
+    ///
+    /// `AllocError` when memory runs out.
     pub fn take(&mut self) -> Result<(), AllocError>
         ensures { OnOk result ((piece : Said) (begun : Begun) (waiting : List Begun) →
             Stands self.old (Some piece) begun waiting →
@@ -87,6 +103,10 @@ impl FormulaBuilder {
     }
 
     /// Ends the chain of `and`, and appends it to that of `or`.
+    ///
+    /// # Errors
+    ///
+    /// `AllocError` when memory runs out.
     pub fn end_chain(&mut self) -> Result<(), AllocError>
         ensures { OnOk result ((chain : Said) (begun : Begun) (waiting : List Begun) →
             Stands self.old None (record begun { both = Some chain }) waiting →

@@ -89,6 +89,10 @@ fn tell<T: ExpressionTruth>(
 
 /// Returns whether a formula holds. Evaluates each comparison once, in their order, and takes no stack: it
 /// keeps two bytes for each formula that is begun and not yet joined with another.
+///
+/// # Errors
+///
+/// `AllocError` when memory runs out.
 #[tactic(auto, using(crate::proofs::Building::formula_told))]
 pub fn formula_holds<T: ExpressionTruth>(
     alloc: Global,

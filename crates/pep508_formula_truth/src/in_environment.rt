@@ -72,6 +72,10 @@ impl<'a> ExpressionTruth for InEnvironment<'a> {
 /// Each comparison is evaluated once; one with n versions takes O(n log n) comparisons of versions, and one
 /// of an extra goes through the extras. Takes memory for the range of one comparison at a time, and two
 /// bytes for each formula that is begun and not yet joined with another; no stack.
+///
+/// # Errors
+///
+/// `AllocError` when memory runs out.
 pub fn holds_in(
     alloc: Global,
     formula: &MarkerFormula,

@@ -11,8 +11,8 @@ ghost use Rattle.pep508_leaf_diagram.specs.Pairing.{IsDiagram, MadeIn, AboveIn};
 
 use crate::child::{Child, child_of};
 use crate::diagram::Diagram;
-use crate::form::{Form, copy_of};
-use pep508_diagram::{Branch, NodeValue};
+use crate::form::Form;
+use pep508_diagram::{Branch, NodeValue, copy_of_boundary};
 use pep508_tree::{Interner, MarkerTree, TreeNode};
 use std::alloc::{AllocError, Global};
 use std::marker::Model;
@@ -79,7 +79,7 @@ fn of_trees<T: NodeValue>(
     let mut branches = Vec::with_capacity(alloc, later.len())?;
     for branch in later {
         branches.push(Branch {
-            boundary: copy_of(alloc, &branch.boundary)?,
+            boundary: copy_of_boundary(alloc, &branch.boundary)?,
             child: child_of(branch.child.turned(negated)),
         })?;
     }

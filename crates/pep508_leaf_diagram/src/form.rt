@@ -5,14 +5,17 @@ ghost use Rattle.pep508_diagram.specs.Text.{text_cmp};
 ghost use Rattle.pep508_tree.specs.Nodes.{first_child, second_child, version_branches};
 ghost use Rattle.pep508_tree.specs.Nodes.{text_branches, node_rank, node_text, node_place};
 ghost use Rattle.pep508_leaf_diagram.specs.Forms.{record_of, others, IsSingle};
-ghost use Rattle.pep508_leaf_diagram.specs.Joining.{head_or, joined_by, node_joined};
+ghost use Rattle.pep508_diagram.specs.Joining.{joined_by};
+ghost use Rattle.pep508_leaf_diagram.specs.Joining.{head_or, node_joined};
 
 use pep440_version::Version;
-use pep508_diagram::{Branch, Flag, MarkerText, NodeValue, VersionVariable, text_rank};
+use pep508_diagram::{
+    Branch, Flag, MarkerText, NodeValue, VersionVariable, add_children, copy_of_boundary, rejoined,
+    text_rank,
+};
 use pep508_marker::MarkerValueString;
 use std::alloc::{AllocError, Global};
 use std::cmp::Ordering;
-use version_ranges::Boundary;
 
 /// A variable with a child for each of its values: the first below all boundaries of a key and one from each
 /// boundary on, or one for either value of a flag.
@@ -23,26 +26,11 @@ pub(crate) enum Form<C> {
     Flagged(Flag, C, C),
 }
 
-/// Returns a copy of a boundary.
-pub(crate) fn copy_of<T: NodeValue>(
-    alloc: Global,
-    boundary: &Boundary<T>,
-) -> Result<Boundary<T>, AllocError>
-    ensures { IfOk result (λ copy. copy ≡ boundary.now) }
-{
-    Ok(match boundary {
-        Boundary::At(value) => Boundary::At(value.copied(alloc)?),
-        Boundary::JustAbove(value) => Boundary::JustAbove(value.copied(alloc)?),
-    })
-}
-
-fn children_of<T, C: Copy>(alloc: Global, later: &[Branch<T, C>]) -> Result<Vec<C>, AllocError>
+fn just_children<T, C: Copy>(alloc: Global, later: &[Branch<T, C>]) -> Result<Vec<C>, AllocError>
     ensures { IfOk result (λ children. children.items ≡ map (λ branch. branch.child) later.now) }
 {
     let mut children = Vec::new(alloc);
-    for branch in later {
-        children.push(branch.child)?;
-    }
+    add_children(&mut children, later)?;
     Ok(children)
 }
 
@@ -55,7 +43,7 @@ fn just<C: Drop>(alloc: Global, child: C) -> Result<Vec<C>, AllocError>
 }
 
 /// Returns branches at the same boundaries with other children; equal neighbours are joined.
-#[tactic(auto, using(crate::proofs::Joined::joined_none))]
+#[tactic(auto, using(pep508_diagram::proofs::Joined::joined_none))]
 fn joined<T: NodeValue, C: Drop, D: Copy + PartialEq>(
     alloc: Global,
     first: D,
@@ -76,39 +64,9 @@ fn joined<T: NodeValue, C: Drop, D: Copy + PartialEq>(
             continue;
         }
         last = *child;
-        let boundary = copy_of(alloc, &branch.boundary)?;
+        let boundary = copy_of_boundary(alloc, &branch.boundary)?;
         branches.push(Branch {
             boundary,
-            child: last,
-        })?;
-    }
-    Ok(branches)
-}
-
-/// Returns these branches with other children, as `joined` does, without a copy of a boundary.
-#[tactic(auto, using(crate::proofs::Joined::joined_none))]
-fn rejoined<T: Drop, C: Drop, D: Copy + PartialEq>(
-    alloc: Global,
-    first: D,
-    later: Vec<Branch<T, C>>,
-    children: &[D],
-) -> Result<Vec<Branch<T, D>>, AllocError>
-    ensures { IfOk result (λ branches. branches.items ≡ joined_by D.eq first later.items children.now) }
-{
-    let mut branches = Vec::new(alloc);
-    let mut last = first;
-    let mut left = children;
-    for branch in later {
-        let Some((next, rest)) = left.split_first() else {
-            return Ok(branches);
-        };
-        left = rest;
-        if *next == last {
-            continue;
-        }
-        last = *next;
-        branches.push(Branch {
-            boundary: branch.boundary,
             child: last,
         })?;
     }
@@ -137,18 +95,26 @@ impl<C: Copy> Form<C> {
     }
 
     /// Returns the children after the first, in order.
+    ///
+    /// # Errors
+    ///
+    /// `AllocError` when memory runs out.
     pub fn others(&self, alloc: Global) -> Result<Vec<C>, AllocError>
         ensures { IfOk result (λ children. children.items ≡ others (record_of self.now)) }
     {
         match self {
-            Form::Versions(_, _, later) => children_of(alloc, later),
-            Form::Texts(_, _, later) => children_of(alloc, later),
+            Form::Versions(_, _, later) => just_children(alloc, later),
+            Form::Texts(_, _, later) => just_children(alloc, later),
             Form::Flagged(_, _, unset) => just(alloc, *unset),
         }
     }
 
     /// Returns the variable with another child for each of its children, in order; equal neighbours are
     /// joined.
+    ///
+    /// # Errors
+    ///
+    /// `AllocError` when memory runs out.
     pub fn joined<D: Copy + PartialEq>(
         &self,
         alloc: Global,
@@ -179,6 +145,10 @@ impl<C: Copy> Form<C> {
 
     /// Returns this variable with another child for each of its children, as `joined` does, and copies no
     /// boundary.
+    ///
+    /// # Errors
+    ///
+    /// `AllocError` when memory runs out.
     pub fn rejoined<D: Copy + PartialEq>(
         self,
         alloc: Global,

@@ -128,6 +128,10 @@ impl Walk {
     }
 
     /// Returns whether a pair is merged. Two leaves get a leaf where they have none.
+    ///
+    /// # Errors
+    ///
+    /// `AllocError` when memory runs out.
     pub fn has(&mut self, first: &Child, second: &Child) -> Result<bool, AllocError>
         ensures { IfOk result (λ _. (inner : List NodeRecord) (a b : Diagram) → IsWalk inner a b self.old →
             IsWalk inner a b self.new) }
@@ -164,6 +168,10 @@ impl Walk {
 
     /// Adds the node of a pair, whose children are the pairs of `form`. Returns `false` where one of these
     /// isn't merged.
+    ///
+    /// # Errors
+    ///
+    /// `AllocError` when memory runs out.
     pub fn add_node(
         &mut self,
         alloc: Global,

@@ -45,6 +45,10 @@ impl MarkerExpression {
     ghost use Rattle.pep508_marker.specs.Expression.{expression_of};
 
     /// Returns a copy, in memory of its own.
+    ///
+    /// # Errors
+    ///
+    /// `AllocError` when memory runs out.
     pub fn try_clone(&self, alloc: Global) -> Result<MarkerExpression, AllocError>
         ensures { IfOk result (λ copy. expression_of copy ≡ expression_of self.now) }
     {

@@ -15,6 +15,6 @@ mod written;
 pub use expression::MarkerExpression;
 pub use keys::{MarkerValueString, MarkerValueVersion};
 pub use operators::{ExtraOperator, MarkerOperator, MarkerTextError};
-pub use reporters::{ClosureReporter, TracingReporter};
+pub use reporters::ClosureReporter;
 pub use values::{MarkerValue, MarkerValueExtra};
 pub use warnings::{MarkerWarningKind, Reporter, Silent};

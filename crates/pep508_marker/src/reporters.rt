@@ -1,16 +1,9 @@
-//! Reporters of warnings: a closure, or a log.
-//!
-//! A log is asked whether it accepts the level, under the target that the record would have, so that one
-//! that does not costs no texts.
+//! A reporter of warnings that calls a closure.
 
-ghost use Rattle.std.specs.Prelude.{◌≡◌, Ok, IfSome};
-ghost use Rattle.std.specs.Bool.{OnFalse};
+ghost use Rattle.std.specs.Prelude.{◌≡◌, Ok};
 ghost use Rattle.std.specs.String.{string_bytes};
-ghost use Rattle.log.specs.declared.level.Level.TheVariants.{Warn};
-ghost use Rattle.pep508_marker.specs.Warnings.{Warning, named_target};
 
 use crate::{MarkerWarningKind, Reporter};
-use log::{Level, Log, log_enabled, warn};
 use std::alloc::AllocError;
 
 /// A reporter that passes each warning to a closure. Where the closure returns that memory ran out, so does
@@ -39,40 +32,5 @@ impl<F: FnMut(MarkerWarningKind, String) -> Result<(), AllocError>> Reporter
 
     fn report(&mut self, kind: MarkerWarningKind, text: String) -> Result<(), AllocError> {
         (self.closure)(kind, text)
-    }
-}
-
-/// A reporter that passes each warning to a log, at level warn. No clause says what the log does with it.
-/// It wants warnings only where the log accepts that level, so that no text is made in vain.
-#[derive(Clone, Copy)]
-pub struct TracingReporter<'a, L> {
-    log: &'a L,
-}
-
-impl<'a, L: Log> TracingReporter<'a, L> {
-    /// Returns a reporter that writes to this log.
-    pub fn new(log: &'a L) -> Self
-        ensures { result.log.now ≡ log.now }
-    {
-        TracingReporter { log }
-    }
-}
-
-impl<L: Log> Reporter for TracingReporter<'_, L> {
-    ghost takes = { λ old _ new. new ≡ old };
-
-    fn report(&mut self, _kind: MarkerWarningKind, text: String) -> Result<(), AllocError> {
-        let log = self.log;
-        warn!(log; "{text}");
-        Ok(())
-    }
-
-    fn wants(&self) -> bool
-        ensures left_out { OnFalse result ((warning : Warning) → self.now ≡ self.now) }
-        ensures asked { IfSome (L.target_of self.now.log.now) (λ target.
-            IfSome (L.enables self.now.log.now Warn (named_target target)) (λ enabled. result ≡ enabled)) }
-    {
-        let log = self.log;
-        log_enabled!(log; Level::Warn)
     }
 }

@@ -24,6 +24,10 @@ impl MarkerValueExtra {
     ghost use Rattle.pep508_marker.specs.Values.{extra_of};
 
     /// Returns a copy, in memory of its own.
+    ///
+    /// # Errors
+    ///
+    /// `AllocError` when memory runs out.
     pub fn try_clone(&self, alloc: Global) -> Result<MarkerValueExtra, AllocError>
         ensures { IfOk result (λ copy. extra_of copy ≡ extra_of self.now) }
     {
@@ -94,6 +98,10 @@ impl MarkerValue {
     }
 
     /// Returns a copy, in memory of its own.
+    ///
+    /// # Errors
+    ///
+    /// `AllocError` when memory runs out.
     pub fn try_clone(&self, alloc: Global) -> Result<MarkerValue, AllocError>
         ensures { IfOk result (λ copy. value_of copy ≡ value_of self.now) }
     {

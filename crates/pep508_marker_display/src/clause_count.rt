@@ -78,6 +78,10 @@ fn add_ends(
 ///
 /// Ends with the clause that is one too many, so that it walks at most `most + 1` paths, and keeps no
 /// clause: needs memory for the steps beside one path. No recursion, however deep the tree is.
+///
+/// # Errors
+///
+/// `AllocError` when memory runs out.
 pub fn has_more_clauses(
     alloc: Global,
     tree: MarkerTree,

@@ -35,6 +35,10 @@ impl Numbers {
     }
 
     /// Gives the tree the next number.
+    ///
+    /// # Errors
+    ///
+    /// `AllocError` when memory runs out.
     pub fn add(&mut self, tree: MarkerTree) -> Result<(), AllocError>
         requires { AreNumbers self.old.trees.items self.old.places }
         ensures numbers { OnOk result (AreNumbers self.new.trees.items self.new.places) }

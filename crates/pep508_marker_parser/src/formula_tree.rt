@@ -159,6 +159,10 @@ fn put_part(
 /// stack, and none of it counts as one of the interner's conjunctions.
 ///
 /// The trees of a chain of `and` or `or` are joined together, which costs what `conjunction_of_all` does.
+///
+/// # Errors
+///
+/// `AllocError` when memory runs out.
 pub fn tree_of(
     alloc: Global,
     interner: &mut Interner,

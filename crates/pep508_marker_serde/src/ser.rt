@@ -21,6 +21,10 @@ pub fn is_empty(tree: MarkerTree) -> bool
 
 /// Returns the tree as a JSON text, which `MarkerTree::from_value` reads: the text of `try_to_string`;
 /// `None` where the tree always holds. Its costs are those of `try_to_string`.
+///
+/// # Errors
+///
+/// `AllocError` when memory runs out.
 pub fn to_value(
     alloc: Global,
     tree: MarkerTree,

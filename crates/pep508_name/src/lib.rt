@@ -41,6 +41,10 @@ impl InvalidNameError {
     ghost use Rattle.pep508_name.specs.Name.{refused_text, told_name};
 
     /// Returns a copy, in memory of its own; a copy of `Memory` takes none.
+    ///
+    /// # Errors
+    ///
+    /// `AllocError` when memory runs out.
     pub fn try_clone(&self, alloc: Global) -> Result<Self, AllocError>
         ensures { IfOk result (λ copy. told_name copy ≡ told_name self.now) }
     {

@@ -42,6 +42,10 @@ impl RequirementOrigin {
     }
 
     /// Returns a copy, in memory of its own.
+    ///
+    /// # Errors
+    ///
+    /// `AllocError` when memory runs out.
     pub fn try_clone(&self, alloc: Global) -> Result<Self, AllocError>
         ensures { IfOk result (λ copy. origin_of copy ≡ origin_of self.now) }
     {
@@ -59,6 +63,10 @@ impl RequirementOrigin {
     }
 
     /// Returns the origin as a JSON value: `{"file": path}`, `{"project": [path, name]}` or `"workspace"`.
+    ///
+    /// # Errors
+    ///
+    /// `AllocError` when memory runs out.
     pub fn to_value(&self, alloc: Global) -> Result<Value, AllocError>
         ensures { IfOk result (λ value. view value ≡ origin_value (origin_of self.now)) }
     {

@@ -70,6 +70,10 @@ impl PackageName {
     }
 
     /// Returns a copy, in memory of its own.
+    ///
+    /// # Errors
+    ///
+    /// `AllocError` when memory runs out.
     pub fn try_clone(&self, alloc: Global) -> Result<Self, AllocError>
         ensures { IfOk result (λ copy. copy ≡ self.now) }
     {
@@ -78,6 +82,10 @@ impl PackageName {
 
     /// Returns the name as an installed package's folder is named, with `_` for each `-` (the specification
     /// of recorded installs). Borrowed, and so without memory, where there is no `-`.
+    ///
+    /// # Errors
+    ///
+    /// `AllocError` when memory runs out.
     #[tactic(auto, using(crate::proofs::Escaped::escaped_name, crate::proofs::Escaped::nothing_escaped))]
     pub fn as_dist_info_name(&self, alloc: Global) -> Result<CowStr<'_>, AllocError>
         ensures text { IfOk result (λ name. cow_str_bytes name ≡ dist_info_name self.now) }
@@ -92,6 +100,10 @@ impl PackageName {
     }
 
     /// Returns the name as a JSON text.
+    ///
+    /// # Errors
+    ///
+    /// `AllocError` when memory runs out.
     pub fn to_value(&self, alloc: Global) -> Result<Value, AllocError>
         ensures { IfOk result (λ value. find.as_str (view value) ≡ Some self.now) }
     {

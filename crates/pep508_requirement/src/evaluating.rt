@@ -34,6 +34,10 @@ impl<T: Pep508Url> Requirement<T> {
     /// Returns whether the requirement applies to some environment with just these extras; the versions are
     /// not looked at. Costs what `MarkerTree::evaluate_extras` does, and may run out of memory as that
     /// does.
+    ///
+    /// # Errors
+    ///
+    /// `AllocError` when memory runs out.
     pub fn evaluate_extras_and_python_version(
         &self,
         alloc: Global,
@@ -51,6 +55,10 @@ impl<T: Pep508Url> Requirement<T> {
 
     /// Returns `evaluate_markers`, and the warnings of the evaluation in their order. Takes memory for
     /// them, and costs what `MarkerTree::evaluate_collect_warnings` does.
+    ///
+    /// # Errors
+    ///
+    /// `AllocError` when memory runs out.
     pub fn evaluate_markers_and_report(
         &self,
         alloc: Global,
@@ -88,6 +96,10 @@ impl<Url: UnnamedRequirementUrl> UnnamedRequirement<Url> {
 
     /// Returns `evaluate_markers` where there is an environment, and else whether the requirement applies
     /// to some environment with just these extras, for which alone it may run out of memory.
+    ///
+    /// # Errors
+    ///
+    /// `AllocError` when memory runs out.
     pub fn evaluate_optional_environment(
         &self,
         alloc: Global,

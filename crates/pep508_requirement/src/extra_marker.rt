@@ -16,6 +16,10 @@ impl<T: Pep508Url> Requirement<T> {
     /// Returns the requirement restricted to an extra: its marker and `extra == name`. The only error is
     /// lack of memory, and earlier trees keep their meaning, also after an error. No conjunction is
     /// counted; it costs what one with a tree of one node does.
+    ///
+    /// # Errors
+    ///
+    /// `AllocError` when memory runs out.
     pub fn with_extra_marker(
         self,
         alloc: Global,

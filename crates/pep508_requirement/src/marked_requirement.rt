@@ -33,6 +33,10 @@ pub struct MarkedRequirement<T: Pep508Url = VerbatimUrl> {
 impl<T: Pep508Url> MarkedRequirement<T> {
     /// Returns whether the requirement applies to an environment with extras, by its marker. Makes no tree;
     /// costs what `holds_in` does, and may run out of memory as that does.
+    ///
+    /// # Errors
+    ///
+    /// `AllocError` when memory runs out.
     pub fn evaluate_markers(
         &self,
         alloc: Global,
@@ -48,6 +52,10 @@ impl<T: Pep508Url> MarkedRequirement<T> {
 
     /// Returns the requirement with a tree of the interner as its marker. The only error is lack of memory,
     /// and earlier trees keep their meaning, also after an error. Costs what `tree_of` does.
+    ///
+    /// # Errors
+    ///
+    /// `AllocError` when memory runs out.
     pub fn with_tree(
         self,
         alloc: Global,

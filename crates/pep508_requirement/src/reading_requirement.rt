@@ -22,7 +22,7 @@ ghost use Rattle.pep508_requirement.specs.MarkerBehind.{marker_behind, TakesWarn
 ghost use Rattle.pep508_requirement.specs.Pieces.{ReadsAsked, ReadsPiece};
 ghost use Rattle.pep508_requirement.specs.RequirementReading.{ReadsRequirement};
 
-use crate::left::{last_mark, refuse_first};
+use crate::remaining_text::{last_mark, refuse_first};
 use crate::{MarkedRequirement, Requirement, VersionOrUrl};
 use pep508_error::{Cursor, Pep508Error, Refusal};
 use pep508_formula::MarkerFormula;

@@ -49,6 +49,10 @@ impl<T: Pep508Url> Requirement<T> {
 
 impl Requirement<VerbatimUrl> {
     /// Returns a copy, in memory of its own.
+    ///
+    /// # Errors
+    ///
+    /// `AllocError` when memory runs out.
     pub fn try_clone(&self, alloc: Global) -> Result<Self, AllocError>
         ensures { IfOk result (λ copy. IsCopy copy self.now) }
     {

@@ -37,6 +37,10 @@ impl<Url: UnnamedRequirementUrl> UnnamedRequirement<Url> {
 
 impl UnnamedRequirement<VerbatimUrl> {
     /// Returns a copy, in memory of its own.
+    ///
+    /// # Errors
+    ///
+    /// `AllocError` when memory runs out.
     pub fn try_clone(&self, alloc: Global) -> Result<Self, AllocError>
         ensures { IfOk result (λ copy. IsUnnamedCopy copy self.now) }
     {

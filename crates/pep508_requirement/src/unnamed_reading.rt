@@ -13,7 +13,7 @@ ghost use Rattle.pep508_requirement.specs.UnnamedUrls.{ReadsUnnamed};
 ghost use Rattle.pep508_requirement.specs.UnnamedRequirementReading.{ReadsGiven, ReadsUnnamedRequirement};
 
 use crate::UnnamedRequirement;
-use crate::left::{last_mark, refuse_first};
+use crate::remaining_text::{last_mark, refuse_first};
 use crate::unnamed_url::read_unnamed_url;
 use pep508_error::{Cursor, Pep508Error, Refusal};
 use pep508_marker::{Reporter, Silent};

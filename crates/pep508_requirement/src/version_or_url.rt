@@ -16,6 +16,10 @@ impl VersionOrUrl<VerbatimUrl> {
     ghost use Rattle.std.specs.Prelude.{◌≡◌, IfOk};
 
     /// Returns a copy, in memory of its own.
+    ///
+    /// # Errors
+    ///
+    /// `AllocError` when memory runs out.
     pub fn try_clone(&self, alloc: Global) -> Result<Self, AllocError>
         ensures { IfOk result (λ copy. copy ≡ self.now) }
     {

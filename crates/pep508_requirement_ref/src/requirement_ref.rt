@@ -71,6 +71,10 @@ impl<'a, T: Pep508Url> RequirementRef<'a, T> {
     }
 
     /// Returns the print as a JSON text, which `Requirement::from_value` reads. Takes memory for the texts.
+    ///
+    /// # Errors
+    ///
+    /// `AllocError` when memory runs out.
     pub fn to_value(&self, alloc: Global) -> Result<Value, AllocError>
         ensures { IfOk result (λ value. IfSome (printed T.output self.now) (λ text.
             as_str (view value) ≡ Some text)) }

@@ -47,6 +47,10 @@ impl<'a, Url: UnnamedRequirementUrl> UnnamedRequirementRef<'a, Url> {
     }
 
     /// Returns the print as a JSON text. Takes memory for the texts.
+    ///
+    /// # Errors
+    ///
+    /// `AllocError` when memory runs out.
     pub fn to_value(&self, alloc: Global) -> Result<Value, AllocError>
         ensures { IfOk result (λ value. IfSome (printed_unnamed Url.output self.now) (λ text.
             as_str (view value) ≡ Some text)) }

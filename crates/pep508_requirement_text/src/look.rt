@@ -14,6 +14,10 @@ use std::alloc::{AllocError, Global};
 /// file name of an archive.
 ///
 /// Linear in the expanded text; takes memory for a text with a `$` alone.
+///
+/// # Errors
+///
+/// `AllocError` when memory runs out.
 pub fn looks_unnamed(alloc: Global, text: &str, vars: &Vars) -> Result<bool, AllocError>
     ensures { IfOk result (λ looks. IsTrue looks ↔ LooksUnnamed vars.now text.now) }
 {

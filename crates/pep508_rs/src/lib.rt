@@ -18,6 +18,8 @@
 //! let applies = wanted.evaluate_markers(alloc, &environment, &[])?;
 //! ```
 //!
+//! `crates/reqtable_list_tests/src/twice.rt` has callers with proved contracts.
+//!
 //! This crate re-exports what the crates below it offer, and versions and specifiers as `pep440_rs`.
 
 pub mod laws;
@@ -37,7 +39,6 @@ pub use pep508_formula_truth::holds_in;
 pub use pep508_marker::{
     ClosureReporter, ExtraOperator, MarkerExpression, MarkerOperator, MarkerTextError, MarkerValue,
     MarkerValueExtra, MarkerValueString, MarkerValueVersion, MarkerWarningKind, Reporter, Silent,
-    TracingReporter,
 };
 pub use pep508_marker_display::{MarkerTreeText, has_more_clauses};
 pub use pep508_marker_key::MarkerTreeKey;
@@ -50,6 +51,7 @@ pub use pep508_requirement::{
 };
 pub use pep508_requirement_ref::{RequirementRef, UnnamedRequirementRef};
 pub use pep508_simplification::MarkerTreeSimplification;
+pub use pep508_tracing_reporter::TracingReporter;
 pub use pep508_tree::{Interner, MarkerTree};
 pub use pep508_tree_ref::MarkerTreeRef;
 pub use pep508_url::{

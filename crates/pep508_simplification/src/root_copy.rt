@@ -8,12 +8,11 @@ ghost use Rattle.pep508_tree.specs.Nodes.{AllChildren, Above, IsRising, node_pla
 ghost use Rattle.pep508_simplification.specs.Parts.{record_of, signs, children_of, with_set, IsRejoined};
 
 use pep440_version::Version;
-use pep508_diagram::{Branch, Flag, MarkerText, NodeValue, VersionVariable};
+use pep508_diagram::{Branch, Flag, MarkerText, NodeValue, VersionVariable, copy_of_boundary};
 use pep508_marker::MarkerValueString;
 use pep508_tree::joining::{children_of, first_and_others, joined};
 use pep508_tree::{Interner, MarkerTree, TreeNode};
 use std::alloc::{AllocError, Global};
-use version_ranges::Boundary;
 
 /// The variable that a tree tests first, and the child for each of its values. A constant tree tests
 /// nothing.
@@ -23,18 +22,6 @@ pub(crate) enum Root {
     Versions(VersionVariable, MarkerTree, Vec<Branch<Version, MarkerTree>>),
     Texts(MarkerValueString, MarkerTree, Vec<Branch<MarkerText, MarkerTree>>),
     Flagged(Flag, MarkerTree, MarkerTree),
-}
-
-pub(crate) fn copy_of_boundary<T: NodeValue>(
-    alloc: Global,
-    boundary: &Boundary<T>,
-) -> Result<Boundary<T>, AllocError>
-    ensures { IfOk result (λ copy. copy ≡ boundary.now) }
-{
-    Ok(match boundary {
-        Boundary::At(value) => Boundary::At(value.copied(alloc)?),
-        Boundary::JustAbove(value) => Boundary::JustAbove(value.copied(alloc)?),
-    })
 }
 
 fn copy_of_branches<T: NodeValue>(
@@ -52,17 +39,6 @@ fn copy_of_branches<T: NodeValue>(
         })?;
     }
     Ok(branches)
-}
-
-fn copy_of_flag(alloc: Global, flag: &Flag) -> Result<Flag, AllocError>
-    ensures { IfOk result (λ copy. copy ≡ flag.now) }
-{
-    Ok(match flag {
-        Flag::In(key, text) => Flag::In(*key, text.copied(alloc)?),
-        Flag::Contains(key, text) => Flag::Contains(*key, text.copied(alloc)?),
-        Flag::Extra(name) => Flag::Extra(name.try_clone(alloc)?),
-        Flag::Arbitrary(text) => Flag::Arbitrary(text.copied(alloc)?),
-    })
 }
 
 /// Returns a copy of a tree's root, with the tree's negation applied to its children.
@@ -87,14 +63,16 @@ pub(crate) fn copy_of_root(
             let later = copy_of_branches(alloc, children.later, children.negated)?;
             Root::Texts(key, children.first.turned(children.negated), later)
         }
-        TreeNode::Flagged(flag, set, unset) => {
-            Root::Flagged(copy_of_flag(alloc, flag)?, set, unset)
-        }
+        TreeNode::Flagged(flag, set, unset) => Root::Flagged(flag.try_clone(alloc)?, set, unset),
     })
 }
 
 impl Root {
     /// Returns the children, in order.
+    ///
+    /// # Errors
+    ///
+    /// `AllocError` when memory runs out.
     pub fn children(&self, alloc: Global) -> Result<Vec<MarkerTree>, AllocError>
         ensures { IfOk result (λ trees. trees.items ≡ children_of (record_of self.now)) }
     {
@@ -122,6 +100,10 @@ impl Root {
 
     /// Returns the tree of the root with other children, in order; for a constant the tree of which it is a
     /// copy.
+    ///
+    /// # Errors
+    ///
+    /// `AllocError` when memory runs out.
     pub fn rejoined(
         self,
         alloc: Global,

@@ -13,9 +13,8 @@ ghost use Rattle.pep508_diagram.specs.Branches.{branch_at};
 ghost use Rattle.pep508_simplification.specs.Parts.{signs};
 ghost use Rattle.pep508_simplification.specs.Within.{behind, up_to};
 
-use crate::root_copy::copy_of_boundary;
 use pep440_version::Version;
-use pep508_diagram::Branch;
+use pep508_diagram::{Branch, copy_of_boundary};
 use pep508_tree::MarkerTree;
 use std::alloc::{AllocError, Global};
 use std::ops::Bound;

@@ -2,32 +2,26 @@
 -- pairs that stand in two trees.
 use Rattle.std.proofs.Common.{◌≡◌, ◌⊎◌, inl, inr, ℕ, zero, suc, ◌<◌, Bool, true, false, ◌&&◌, List, [], ◌∷◌}
 use Rattle.std.proofs.Common.{◌++◌, length, get_or, map, refl, ap, ap₂, sym, subst, ◌∙◌, arith, length-append}
-use Rattle.std.proofs.Common.{append_assoc, Ordering, Less, is_eq, true≢false}
+use Rattle.std.proofs.Common.{append_assoc, Less}
 use Rattle.std.proofs.lemmas.Bool.{cases_Bool}
 use Rattle.std.proofs.lemmas.List.{get_or_append_left}
 use Rattle.std.specs.List.{AllByRecursion}
-use Rattle.std.specs.Cmp.{IsTotalOrder}
 use Rattle.std.specs.Cmp.Lexicographic.{nat_list_cmp_total}
-use Rattle.version_ranges.specs.declared.boundary.Boundary.{Boundary}
-use Rattle.version_ranges.specs.Boundaries.{point_of, boundary_cmp}
-use Rattle.version_ranges.specs.Point.{Point, point_cmp}
-use Rattle.version_ranges.specs.Turns.{reaches}
 use Rattle.pep440_version.specs.OrderLaws.{version_cmp_total}
 use Rattle.pep508_diagram.specs.declared.branch.Branch.{Branch}
 use Rattle.pep508_diagram.specs.Text.{text_cmp}
-use Rattle.pep508_diagram.specs.Branches.{RisingBranches, branch_at, AllBranches, NeighboursDiffer}
+use Rattle.pep508_diagram.specs.Branches.{AllBranches}
 use Rattle.pep508_diagram.specs.Question.{Valuation}
-use Rattle.pep508_diagram.proofs.Places.{equal_from}
-use Rattle.pep508_diagram.proofs.Branching.{before_unreached}
 use Rattle.pep508_tree.specs.Tree.{Tree}
 use Rattle.pep508_tree.specs.Meaning.{NodeOf, NodeRecord, Versions, Texts, Flagged, holds, IsTree, Extends}
 use Rattle.pep508_tree.specs.Nodes.{AllChildren, IsRising, IsJoined, Above, Splits, Made, chosen, no_node}
-use Rattle.pep508_tree.specs.Nodes.{node_at, node_place, tree_cmp, turned}
-use Rattle.pep508_tree.specs.Joining.{children, joined, head, tail, node_joined}
+use Rattle.pep508_tree.specs.Nodes.{node_at, node_place, turned}
+use Rattle.pep508_tree.specs.Joining.{children, is_same, head, tail, node_joined}
 use Rattle.pep508_tree.specs.Conjunctions.{Conjunction, ArePairs, Meet}
 use Rattle.pep508_tree.proofs.Diagrams.{holds_kept}
-use Rattle.pep508_tree.proofs.OneNode.{tied_trees}
-use Rattle.pep508_tree.proofs.Storing.{above_kept, trees_same}
+use Rattle.pep508_tree.proofs.Rejoined.{joined_rises, joined_differs, joined_at, joined_all}
+use Rattle.pep508_tree.proofs.Same.{same_trees}
+use Rattle.pep508_tree.proofs.Storing.{above_kept}
 
 -- ---- nodes that are added
 
@@ -123,84 +117,6 @@ meet_weaker R S so [] (y ∷ ys) m = m
 meet_weaker R S so (x ∷ xs) [] m = m
 meet_weaker R S so (x ∷ xs) (y ∷ ys) m = (so x y m.0, meet_weaker R S so xs ys m.1)
 
--- ---- branches whose children are given anew
-
-module _ {T C : Type 0} {cmp : T → T → Ordering} (o : IsTotalOrder cmp) where
-  joined_after : (P : Boundary T → Type 0) (last : Tree) (later : List (Branch T C)) (trees : List Tree) →
-      AllByRecursion P (map (λ branch. branch.boundary) later) →
-      AllByRecursion P (map (λ branch. branch.boundary) (joined last later trees))
-  joined_after P last [] trees all = tt
-  joined_after P last (b ∷ later) [] all = tt
-  joined_after P last (b ∷ later) (t ∷ trees) all = elim (cases_Bool (is_eq (tree_cmp t last))) [
-    | inl same ↦ rw same (joined_after P last later trees all.1)
-    | inr other ↦ rw other (all.0, joined_after P t later trees all.1)
-  ]
-
-  pub joined_rises : (last : Tree) (later : List (Branch T C)) (trees : List Tree) →
-      RisingBranches cmp later →
-      RisingBranches cmp (joined last later trees)
-  joined_rises last [] trees rises = tt
-  joined_rises last (b ∷ later) [] rises = tt
-  joined_rises last (b ∷ later) (t ∷ trees) rises = elim (cases_Bool (is_eq (tree_cmp t last))) [
-    | inl same ↦ rw same (joined_rises last later trees rises.1)
-    | inr other ↦
-        rw other (
-          joined_after (λ c. boundary_cmp cmp b.boundary c ≡ Less) t later trees rises.0,
-          joined_rises t later
-              trees rises.1,
-        )
-  ]
-
-  pub joined_differs : (last : Tree) (later : List (Branch T C)) (trees : List Tree) →
-      NeighboursDiffer last (joined last later trees)
-  joined_differs last [] trees = tt
-  joined_differs last (b ∷ later) [] = tt
-  joined_differs last (b ∷ later) (t ∷ trees) = elim (cases_Bool (is_eq (tree_cmp t last))) [
-    | inl same ↦ rw same (joined_differs last later trees)
-    | inr other ↦
-        rw other
-        (λ e. true≢false (sym (ap is_eq (tied_trees t last (sym e))) ∙ other), joined_differs t later trees)
-  ]
-
-  -- what holds of each pair holds at each point
-  pub joined_at : (R : C → Tree → Type 0) (first : C) (last : Tree) (later : List (Branch T C))
-      (trees : List Tree) →
-      R first last → Meet R (map (λ branch. branch.child) later) trees → RisingBranches cmp later →
-      (p : Point T) →
-      R (branch_at cmp first later p) (branch_at cmp last (joined last later trees) p)
-  joined_at R first last [] trees r m rises p = r
-  joined_at R first last (b ∷ later) [] r m rises p = absurd m
-  joined_at R first last (b ∷ later) (t ∷ trees) r m rises p =
-      elim (cases_Bool (reaches (point_cmp cmp) (point_of b.boundary) p)) [
-        | inl up ↦ elim (cases_Bool (is_eq (tree_cmp t last))) [
-          | inl same ↦
-              let one : t ≡ last = trees_same t last (equal_from (tree_cmp t last) same) in
-              rw (up, same) (joined_at R b.child last later trees (subst (R b.child) one m.0) m.1 rises.1 p)
-          | inr other ↦ rw (up, other, up) (joined_at R b.child t later trees m.0 m.1 rises.1 p)
-        ]
-        | inr over ↦ elim (cases_Bool (is_eq (tree_cmp t last))) [
-          | inl same ↦
-              let here : branch_at cmp first later p ≡ first = before_unreached o b.boundary first later p
-              over rises.0 in
-              rw (over, same)
-              (subst (λ c. R c (branch_at cmp last (joined last later trees) p)) here
-              (joined_at R first last later trees r m.1 rises.1 p))
-          | inr other ↦ rw (over, other, over) r
-        ]
-      ]
-
-  pub joined_all : (P : Tree → Type 0) (R : C → Tree → Type 0) → ((c : C) (t : Tree) → R c t → P t) →
-      (last : Tree)
-      (later : List (Branch T C)) (trees : List Tree) → P last →
-      Meet R (map (λ branch. branch.child) later) trees →
-      AllBranches P last (joined last later trees)
-  joined_all P R so last [] trees p m = p
-  joined_all P R so last (b ∷ later) [] p m = absurd m
-  joined_all P R so last (b ∷ later) (t ∷ trees) p m = elim (cases_Bool (is_eq (tree_cmp t last))) [
-    | inl same ↦ rw same (joined_all P R so last later trees p m.1)
-    | inr other ↦ rw other (p, joined_all P R so t later trees (so b.child t m.0) m.1)
-  ]
-
 -- ---- nodes whose children are given anew
 
 module _ {C : Type 0} where
@@ -235,15 +151,15 @@ module _ {C : Type 0} where
 
   pub rises_joined : (n : NodeOf C) (trees : List Tree) → IsRising n → IsRising (node_joined n trees)
   rises_joined (Versions key first later) trees rises =
-      joined_rises version_cmp_total (head trees) later (tail trees) rises
+      joined_rises version_cmp_total is_same same_trees (head trees) later (tail trees) rises
   rises_joined (Texts key first later) trees rises =
-      joined_rises nat_list_cmp_total (head trees) later (tail trees) rises
+      joined_rises nat_list_cmp_total is_same same_trees (head trees) later (tail trees) rises
   rises_joined (Flagged flag set unset) trees rises = tt
 
   pub is_joined : (n : NodeOf C) (trees : List Tree) → IsJoined (node_joined n trees)
-  is_joined (Versions key first later) trees = joined_differs version_cmp_total (head trees) later
+  is_joined (Versions key first later) trees = joined_differs version_cmp_total is_same same_trees (head trees) later
       (tail trees)
-  is_joined (Texts key first later) trees = joined_differs nat_list_cmp_total (head trees) later (tail trees)
+  is_joined (Texts key first later) trees = joined_differs nat_list_cmp_total is_same same_trees (head trees) later (tail trees)
   is_joined (Flagged flag set unset) trees = tt
 
   module _ (R : C → Tree → Type 0) where
@@ -251,10 +167,10 @@ module _ {C : Type 0} where
         (trees : List Tree) → Meet R (children n) trees → AllChildren P (node_joined n trees)
     children_joined P so (Versions key first later) [] m = absurd m
     children_joined P so (Versions key first later) (t ∷ trees) m =
-        joined_all version_cmp_total P R so t later trees (so first t m.0) m.1
+        joined_all version_cmp_total is_same same_trees P R so t later trees (so first t m.0) m.1
     children_joined P so (Texts key first later) [] m = absurd m
     children_joined P so (Texts key first later) (t ∷ trees) m =
-        joined_all nat_list_cmp_total P R so t later trees (so first t m.0) m.1
+        joined_all nat_list_cmp_total is_same same_trees P R so t later trees (so first t m.0) m.1
     children_joined P so (Flagged flag set unset) [] m = absurd m
     children_joined P so (Flagged flag set unset) (t ∷ []) m = absurd m.1
     children_joined P so (Flagged flag set unset) (t ∷ u ∷ trees) m = (so set t m.0, so unset u m.1.0)
@@ -263,10 +179,10 @@ module _ {C : Type 0} where
         (v : Valuation) → R (chosen n v) (chosen (node_joined n trees) v)
     chosen_joined (Versions key first later) [] m rises v = absurd m
     chosen_joined (Versions key first later) (t ∷ trees) m rises v =
-        joined_at version_cmp_total R first t later trees m.0 m.1 rises (v.version key)
+        joined_at version_cmp_total is_same same_trees R first t later trees m.0 m.1 rises (v.version key)
     chosen_joined (Texts key first later) [] m rises v = absurd m
     chosen_joined (Texts key first later) (t ∷ trees) m rises v =
-        joined_at nat_list_cmp_total R first t later trees m.0 m.1 rises (v.text key)
+        joined_at nat_list_cmp_total is_same same_trees R first t later trees m.0 m.1 rises (v.text key)
     chosen_joined (Flagged flag set unset) [] m rises v = absurd m
     chosen_joined (Flagged flag set unset) (t ∷ []) m rises v = absurd m.1
     chosen_joined (Flagged flag set unset) (t ∷ u ∷ trees) m rises v = elim (cases_Bool (v.flag flag)) [

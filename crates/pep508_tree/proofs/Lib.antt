@@ -15,6 +15,7 @@ pub mod Splitting
 pub mod Storing
 pub mod Tags
 pub mod Placing
+pub mod Rejoined
 pub mod Conjoining
 pub mod Roots
 pub mod Leaves

@@ -1,10 +1,10 @@
 -- Nodes with new children, in order.
-use Rattle.std.specs.Prelude.{cond, List, [], ◌∷◌, map}
-use Rattle.std.specs.Ordering.{is_eq}
+use Rattle.std.specs.Prelude.{Bool, ◌==◌, ◌&&◌, List, [], ◌∷◌, map}
+use Rattle.std.specs.Bool.{beq}
 use Rattle.pep508_diagram.specs.declared.branch.Branch.{Branch}
+use Rattle.pep508_diagram.specs.Joining.{joined_by}
 use Rattle.pep508_tree.specs.Tree.{Tree, always}
 use Rattle.pep508_tree.specs.Meaning.{NodeOf, NodeRecord, Versions, Texts, Flagged}
-use Rattle.pep508_tree.specs.Nodes.{tree_cmp}
 
 -- the children of a node, in order
 abbrev pub children : {C : Type 0} → NodeOf C → List C
@@ -12,13 +12,13 @@ children (Versions key first later) = first ∷ map (λ branch. branch.child) la
 children (Texts key first later) = first ∷ map (λ branch. branch.child) later
 children (Flagged flag set unset) = set ∷ unset ∷ []
 
+-- two trees are one
+abbrev pub is_same : Tree → Tree → Bool
+is_same a b = (a.place == b.place) && beq a.negated b.negated
+
 -- branches between the same endpoints, with these trees; equal neighbours are joined
 abbrev pub joined : {T C : Type 0} → Tree → List (Branch T C) → List Tree → List (Branch T Tree)
-joined last [] trees = []
-joined last (branch ∷ later) [] = []
-joined last (branch ∷ later) (tree ∷ trees) =
-    cond (is_eq (tree_cmp tree last)) (joined last later trees)
-    (record { boundary = branch.boundary; child = tree } ∷ joined tree later trees)
+joined = joined_by is_same
 
 -- the first of trees, and the others
 abbrev pub head : List Tree → Tree

@@ -16,6 +16,10 @@ impl MarkerTree {
     /// Takes no more steps than the product of the numbers of the two trees' nodes, each as long as two
     /// nodes' endpoints. No recursion, however deep the trees are. Takes memory of `alloc` for lists that
     /// are dropped again, and of the interner's for nodes. Counts as one of the interner's conjunctions.
+    ///
+    /// # Errors
+    ///
+    /// `AllocError` when memory runs out.
     pub fn and(
         self,
         alloc: Global,
@@ -34,6 +38,10 @@ impl MarkerTree {
     }
 
     /// Returns the tree that holds where either holds. Errors, cost and count are those of `and`.
+    ///
+    /// # Errors
+    ///
+    /// `AllocError` when memory runs out.
     pub fn or(
         self,
         alloc: Global,

@@ -169,6 +169,10 @@ impl Interner {
 ///
 /// It is for the crates that make trees of texts and of requirements. `pep508_rs` doesn't re-export it, and
 /// a function that promises a number of conjunctions must not call it.
+///
+/// # Errors
+///
+/// `AllocError` when memory runs out.
 pub fn uncounted_conjunction(
     alloc: Global,
     interner: &mut Interner,

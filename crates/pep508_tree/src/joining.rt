@@ -5,10 +5,14 @@ ghost use Rattle.std.specs.Prelude.{◌≡◌, ◌∷◌, map, IfOk};
 ghost use Rattle.pep508_tree.specs.Joining.{joined, head, tail};
 
 use crate::tree::MarkerTree;
-use pep508_diagram::Branch;
+use pep508_diagram::{Branch, add_children, rejoined};
 use std::alloc::{AllocError, Global};
 
 /// Returns the first child, and the child of each branch after it.
+///
+/// # Errors
+///
+/// `AllocError` when memory runs out.
 pub fn children_of<T, C: Copy>(
     alloc: Global,
     first: C,
@@ -18,14 +22,15 @@ pub fn children_of<T, C: Copy>(
 {
     let mut children = Vec::new(alloc);
     children.push(first)?;
-    for branch in later {
-        children.push(branch.child)?;
-    }
+    add_children(&mut children, later)?;
     Ok(children)
 }
 
 /// Returns branches between the same endpoints with other trees. Equal neighbours are joined.
-#[tactic(auto, using(crate::proofs::Joins::joined_none))]
+///
+/// # Errors
+///
+/// `AllocError` when memory runs out.
 pub fn joined<T: Drop, C: Drop>(
     alloc: Global,
     first: MarkerTree,
@@ -34,24 +39,7 @@ pub fn joined<T: Drop, C: Drop>(
 ) -> Result<Vec<Branch<T, MarkerTree>>, AllocError>
     ensures { IfOk result (λ branches. branches.items ≡ joined first later.items trees.now) }
 {
-    let mut branches = Vec::new(alloc);
-    let mut last = first;
-    let mut left = trees;
-    for branch in later {
-        let Some((tree, rest)) = left.split_first() else {
-            return Ok(branches);
-        };
-        left = rest;
-        if tree.cmp_places(last).is_eq() {
-            continue;
-        }
-        last = *tree;
-        branches.push(Branch {
-            boundary: branch.boundary,
-            child: last,
-        })?;
-    }
-    Ok(branches)
+    rejoined(alloc, first, later, trees)
 }
 
 /// Returns the first of trees, and the others; of none the tree that always holds.

@@ -76,6 +76,10 @@ impl Interner {
     /// earlier trees keep their meaning, also after an error. Counts nothing.
     ///
     /// Copies each endpoint of the set, at the shortest spelling of its version.
+    ///
+    /// # Errors
+    ///
+    /// `AllocError` when memory runs out.
     pub fn versions_tree(
         &mut self,
         alloc: Global,
@@ -96,6 +100,10 @@ impl Interner {
     /// Returns the tree that holds where a key's text is in the set that contains what is below all
     /// endpoints where `starts_held`, and at each of whose endpoints membership flips. Errors, cost and
     /// count are those of `versions_tree`.
+    ///
+    /// # Errors
+    ///
+    /// `AllocError` when memory runs out.
     pub fn texts_tree(
         &mut self,
         alloc: Global,
@@ -115,6 +123,10 @@ impl Interner {
     }
 
     /// Returns the tree that holds where a flag is set. Errors and count are those of `versions_tree`.
+    ///
+    /// # Errors
+    ///
+    /// `AllocError` when memory runs out.
     pub fn flag_tree(&mut self, alloc: Global, flag: Flag) -> Result<MarkerTree, AllocError>
         ensures made { IfOk result (λ tree. IsTree self.new.nodes tree) }
         ensures truth { IfOk result (λ tree. (v : Valuation) → holds self.new.nodes tree v ≡ v.flag flag) }

@@ -42,6 +42,10 @@ pub(crate) enum Form<C> {
 
 impl Form<Pair> {
     /// Returns the children, in order.
+    ///
+    /// # Errors
+    ///
+    /// `AllocError` when memory runs out.
     pub fn children(&self, alloc: Global) -> Result<Vec<Pair>, AllocError>
         ensures { IfOk result (λ pairs. pairs.items ≡ children (record_of self.now)) }
     {
@@ -53,6 +57,10 @@ impl Form<Pair> {
     }
 
     /// Returns the form with the given trees in place of its children, in order.
+    ///
+    /// # Errors
+    ///
+    /// `AllocError` when memory runs out.
     pub fn joined(self, alloc: Global, trees: &[MarkerTree]) -> Result<Form<MarkerTree>, AllocError>
         ensures { IfOk result (λ form. record_of form ≡ node_joined (record_of self) trees.now) }
     {
@@ -300,6 +308,10 @@ impl Node {
     }
 
     /// Returns the pairs of each child and a tree that does not test the variable.
+    ///
+    /// # Errors
+    ///
+    /// `AllocError` when memory runs out.
     pub fn with_tree(&self, alloc: Global, tree: MarkerTree) -> Result<Form<Pair>, AllocError>
         requires { IsRising self.now }
         ensures { IfOk result (λ pairs.
@@ -309,6 +321,10 @@ impl Node {
     }
 
     /// Returns the pairs of this node's children and of those of a node of the same variable.
+    ///
+    /// # Errors
+    ///
+    /// `AllocError` when memory runs out.
     pub fn with_node(&self, alloc: Global, other: &Node) -> Result<Form<Pair>, AllocError>
         requires same { text_cmp (node_place self.now) (node_place other.now) ≡ Equal }
         requires rising { IsRising self.now }

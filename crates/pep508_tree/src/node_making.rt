@@ -26,6 +26,10 @@ impl Interner {
     /// both sides; these trees test later variables. The only error is lack of memory. Counts nothing.
     ///
     /// Looks the node up among all others, and keeps it where it is new.
+    ///
+    /// # Errors
+    ///
+    /// `AllocError` when memory runs out.
     pub fn versions_node(
         &mut self,
         key: VersionVariable,
@@ -44,6 +48,10 @@ impl Interner {
     }
 
     /// Returns the tree that tests a key's text first; for the rest see `versions_node`.
+    ///
+    /// # Errors
+    ///
+    /// `AllocError` when memory runs out.
     pub fn texts_node(
         &mut self,
         key: MarkerValueString,
@@ -63,6 +71,10 @@ impl Interner {
 
     /// Returns the tree that tests a flag first, with the trees where it is set and where it is not; for
     /// the rest see `versions_node`.
+    ///
+    /// # Errors
+    ///
+    /// `AllocError` when memory runs out.
     pub fn flag_node(
         &mut self,
         flag: Flag,

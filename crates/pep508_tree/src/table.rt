@@ -260,6 +260,10 @@ impl NodeTable {
     /// Returns the pairs of the children of two trees for each value of the variable that comes first in
     /// them, without the trees' negations. The first tree's variable does not come after that of the
     /// second.
+    ///
+    /// # Errors
+    ///
+    /// `AllocError` when memory runs out.
     pub fn split(&self, a: MarkerTree, b: MarkerTree) -> Result<Form<Pair>, AllocError>
         requires a { IsTree self.now a }
         requires b { IsTree self.now b }
@@ -303,6 +307,10 @@ impl NodeTable {
 
     /// Returns the tree of a form whose children test later variables only: its only child, where all are
     /// the same, and else the tree of its node, with versions in their shortest spelling.
+    ///
+    /// # Errors
+    ///
+    /// `AllocError` when memory runs out.
     pub fn store(&mut self, form: Form<MarkerTree>) -> Result<MarkerTree, AllocError>
         requires made { AllChildren (IsTree self.old) (record_of form) }
         requires above { AllChildren (Above self.old (node_place (record_of form))) (record_of form) }

@@ -72,6 +72,10 @@ impl<'a> MarkerTreeRef<'a> {
 
     /// Returns the text of the tree, made by the allocator of `new`; `None` where the tree always holds.
     /// Takes memory as `MarkerTreeText::try_to_string`.
+    ///
+    /// # Errors
+    ///
+    /// `AllocError` when memory runs out.
     pub fn try_to_string(&self) -> Result<Option<String>, AllocError>
         ensures { IfOk result (λ text.
             option_map string_bytes text ≡ marker_text (diagram_in (tree_in self.now))) }
@@ -81,6 +85,10 @@ impl<'a> MarkerTreeRef<'a> {
 
     /// Compares two trees as `cmp` does. The only error is lack of memory for the way back to the roots, of
     /// the allocator of `new`. No recursion, however deep the trees are.
+    ///
+    /// # Errors
+    ///
+    /// `AllocError` when memory runs out.
     pub fn try_cmp(&self, other: &MarkerTreeRef) -> Result<Ordering, AllocError>
         ensures { IfOk result (λ order. order ≡ tree_ref_cmp self.now other.now) }
     {

@@ -86,6 +86,10 @@ fn root(path: &str) -> &'static str
 
 /// Returns the path that the path of a `file` URL means: its escapes decoded, or the path as it is where
 /// the bytes are not UTF-8. A path without escapes is borrowed as it is.
+///
+/// # Errors
+///
+/// `AllocError` when memory runs out.
 pub fn normalize_url_path(alloc: Global, path: &str) -> Result<CowStr<'_>, AllocError>
     ensures { IfOk result (λ text. cow_str_bytes text ≡ decoded path.now) }
 {

@@ -20,6 +20,10 @@ pub enum Place<'a> {
 /// another `Scheme`, and a path where there is no scheme or an unknown one.
 ///
 /// Linear in the text; takes memory for a path with escapes alone.
+///
+/// # Errors
+///
+/// `AllocError` when memory runs out.
 #[tactic(auto, unfolding(crate::specs::UrlTexts::place_of))]
 pub fn place_of(alloc: Global, text: &str) -> Result<Place<'_>, AllocError>
     ensures { IfOk result (λ place. named_by place ≡ place_of text.now) }

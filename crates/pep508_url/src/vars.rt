@@ -55,6 +55,10 @@ impl Vars {
     /// absolute path of the project.
     ///
     /// Copies every text, and the names twice. With n pairs it takes O(n log n) comparisons of names.
+    ///
+    /// # Errors
+    ///
+    /// `AllocError` when memory runs out.
     pub fn new(
         alloc: Global,
         pairs: &[(&str, &str)],
@@ -166,6 +170,10 @@ fn find<'a>(
 /// expanded again.
 ///
 /// Linear in the result; each name is looked up as by `value`. A text without `$` is borrowed as it is.
+///
+/// # Errors
+///
+/// `AllocError` when memory runs out.
 pub fn expand_env_vars<'a>(
     alloc: Global,
     text: &'a str,

@@ -136,6 +136,10 @@ impl VerbatimUrl {
     }
 
     /// Returns a copy of the URL itself.
+    ///
+    /// # Errors
+    ///
+    /// `AllocError` when memory runs out.
     pub fn to_url(&self) -> Result<Url, AllocError>
         ensures { IfOk result (λ url. url ≡ self.now.url) }
     {
@@ -163,6 +167,10 @@ impl VerbatimUrl {
     }
 
     /// Returns a copy, in memory of its own.
+    ///
+    /// # Errors
+    ///
+    /// `AllocError` when memory runs out.
     pub fn try_clone(&self, alloc: Global) -> Result<Self, AllocError>
         ensures { IfOk result (λ copy. copy ≡ self.now) }
     {
@@ -177,6 +185,10 @@ impl VerbatimUrl {
     }
 
     /// Returns the URL as a JSON text: its print.
+    ///
+    /// # Errors
+    ///
+    /// `AllocError` when memory runs out.
     pub fn to_value(&self, alloc: Global) -> Result<Value, AllocError>
         ensures { IfOk result (λ value. find.as_str (view value) ≡ Some (serialize self.now.url)) }
     {

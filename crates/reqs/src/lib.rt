@@ -1,8 +1,9 @@
 #![tactic(auto)]
 //! The commands of `reqs`. Each reads its inputs whole, and writes its answer once all of it is made. The
-//! commands on lists alone are in `reqs_lists`.
+//! commands on lists alone are in `reqs_lists`, those on lists where a condition holds in `reqs_assuming`.
 //!
-//! Anything that reads bytes can be an input, and anything that writes them the output:
+//! Anything that reads bytes can be an input, and anything that writes them the output; `reqs_command` calls
+//! them with files:
 //!
 //! ```text
 //! let mut requirements = File::open(rt, "requirements.txt")?;
@@ -17,11 +18,13 @@
 //! ```
 
 pub use pep508_url::Vars;
-pub use reqs_answers::{check, laws, matrix, matrix_within};
+pub use reqs_answers::{check, check_strict, laws, matrix, matrix_strict, matrix_within};
+pub use reqs_assuming::{Terms, conflicts_where, covers_where, read_condition, same_where};
 pub use reqs_io_faults::{
     Bounds, Excess, Input, JsonShape, RefusedCause, RefusedWord, RunFault, Status,
 };
 pub use reqs_json::Format;
 pub use reqs_lists::{
-    conflicts, conflicts_within, covers, covers_within, normal, normal_within, same, same_within,
+    conflicts, conflicts_strict, conflicts_within, covers, covers_within, normal, normal_within,
+    same, same_within,
 };

@@ -25,7 +25,7 @@ use Rattle.reqs_answers.specs.Check.{on_request}
 use Rattle.reqs_answers.specs.Frames.{opening, head, foot, closing}
 use Rattle.reqs_answers.specs.Matrix.{AreAnswers, IsMatrixText, IsMatrixIn, environment_line}
 
-zip_more : {A B : Type 0} (R : A → B → Type 0) (xs : List A) (ys : List B) (x : A) (y : B) → AllZip R xs ys → R x y
+pub zip_more : {A B : Type 0} (R : A → B → Type 0) (xs : List A) (ys : List B) (x : A) (y : B) → AllZip R xs ys → R x y
     → AllZip R (xs ++ x ∷ []) (ys ++ y ∷ [])
 zip_more R [] [] x y h r = (r, tt)
 zip_more R [] (b ∷ ys) x y h r = absurd h

@@ -4,3 +4,5 @@ pub mod Numbered
 pub mod Formats
 pub mod Framed
 pub mod Ready
+pub mod Strict
+pub mod AskedRows

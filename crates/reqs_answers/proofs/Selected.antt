@@ -9,12 +9,14 @@ use Rattle.reqtable_candidates.specs.declared.candidates.Candidate.{Candidate}
 use Rattle.reqtable_answer.specs.declared.answer.Outcome.{Outcome}
 use Rattle.reqtable_answer.specs.declared.answer.Outcome.TheVariants.{Taken, Nothing, Direct}
 use Rattle.reqtable_answer.specs.Answer.{RowRecord}
+use Rattle.reqtable_answer.proofs.Tests.{any_zip}
 use Rattle.reqtable_streaming.specs.Selection.{SelectsAs, IsRowAs}
 use Rattle.reqtable_streaming.proofs.OneRoad.{text_as}
 use Rattle.reqs_json.specs.declared.format.Format.{Format}
 use Rattle.reqs_json.specs.declared.format.Format.TheVariants.{Text, Json}
 use Rattle.reqs_json.specs.Lines.{array_of, line_of}
 use Rattle.reqs_json.specs.Rows.{outcome_word, version_value, package_value, rows_text}
+use Rattle.reqs_answers.specs.Strict.{is_nothing, has_none}
 
 module _ (selected candidates : List Candidate) where
   word_as : (a b : Outcome) → SelectsAs selected candidates a b → outcome_word a ≡ outcome_word b
@@ -64,3 +66,20 @@ module _ (selected candidates : List Candidate) where
   rows_as Text rows answer h = text_as selected candidates rows answer h
   rows_as Json rows answer h =
       ap (λ values. line_of (object (member (codes "packages") (array (items_of values)) no_members))) (packages_as rows answer h)
+
+  nothing_as : (a b : Outcome) → SelectsAs selected candidates a b → is_nothing a ≡ is_nothing b
+  nothing_as (Taken place) (Taken other) h = refl
+  nothing_as (Taken place) Nothing h = absurd h
+  nothing_as (Taken place) Direct h = absurd h
+  nothing_as Nothing (Taken other) h = absurd h
+  nothing_as Nothing Nothing h = refl
+  nothing_as Nothing Direct h = absurd h
+  nothing_as Direct (Taken other) h = absurd h
+  nothing_as Direct Nothing h = absurd h
+  nothing_as Direct Direct h = refl
+
+  pub none_as : (rows answer : List RowRecord) → AllZip (IsRowAs selected candidates) rows answer
+      → has_none rows ≡ has_none answer
+  none_as =
+      any_zip (IsRowAs selected candidates) (λ row. is_nothing row.outcome) (λ row. is_nothing row.outcome)
+      (λ row other h. nothing_as row.outcome other.outcome h.outcome)

@@ -1,5 +1,5 @@
 -- What is answered behind a list of requirements is what is answered to all texts.
-use Rattle.std.proofs.Common.{◌≡◌, ◌≢◌, ◌⊎◌, inl, inr, ℕ, List, Option, Result, Ok, Err, IfErr, String}
+use Rattle.std.proofs.Common.{◌≡◌, ◌≢◌, ◌⊎◌, inl, inr, ℕ, Bool, List, Option, Result, Ok, Err, IfErr}
 use Rattle.std.proofs.Common.{sym, subst}
 use Rattle.std.specs.List.{AllZip}
 use Rattle.pep508_url.specs.Vars.{Variables}
@@ -15,7 +15,6 @@ use Rattle.reqs_io_faults.specs.declared.fault.Input.TheVariants.{First, Second}
 use Rattle.reqs_io_faults.specs.declared.fault.RunFault.{RunFault}
 use Rattle.reqs_io_faults.specs.declared.fault.RunFault.TheVariants.{Memory, Write}
 use Rattle.reqs_io_faults.specs.declared.fault.Status.{Status}
-use Rattle.reqs_io_faults.specs.declared.fault.Status.TheVariants.{Answered}
 use Rattle.reqs_io_faults.specs.declared.bounds.Bounds.{Bounds}
 use Rattle.reqs_io_faults.specs.Faults.{IsPlain, IsOfTexts, IsExcess, Refuses, unbounded}
 use Rattle.reqs_io_faults.specs.Inputs.{◌>>=◌, extras_of, lines_from, environment_from, environments_from}
@@ -23,35 +22,37 @@ use Rattle.reqs_io_faults.specs.Ends.{AreWithin, Answering, Refusing, Runs, Ends
 use Rattle.reqs_io_faults.specs.Within.{Bounded, PassesAt, RefusesOr}
 use Rattle.reqs_io_faults.proofs.Steps.{refuses_texts, refuses_rest, texts_refused, bound_passed, answered}
 use Rattle.reqs_io_faults.proofs.Unbounded.{ok_without, err_without}
+use Rattle.reqs_answers.specs.declared.checks.Checked.{Checked}
+use Rattle.reqs_answers.specs.declared.environments.Judged.{Judged}
 use Rattle.reqs_answers.specs.Check.{AnswersText}
-use Rattle.reqs_pieces.specs.Pieces.{PiecesRecord}
 use Rattle.reqs_answers.specs.Matrix.{MatrixTexts, IsRead, IsOverLimitWithin, AnswersAll, WritesText, matrix_texts}
 use Rattle.reqs_answers.specs.Matrix.{OutgrowsOrOver, PassesIn, MatrixAnswersWithin, MatrixRefusesWithin, MatrixPasses}
-use Rattle.reqs_answers.specs.Matrix.{MatrixAnswersAs, MatrixRefuses}
+use Rattle.reqs_answers.specs.Matrix.{MatrixAnswersAs, MatrixRefuses, MatrixAnswersBy}
 use Rattle.reqs_answers.specs.Texts.{ReadTexts, behind_lines, texts_of}
 
 module _ (vars : Variables) (extras : List (List ℕ)) (x y z : List ℕ) (names : List (List ℕ))
     (said : List LineRecord) (e : extras_of extras ≡ Ok names) (l : lines_from vars First x ≡ Ok said) where
-  pub whole_check : {Y : Type 0} (format : Format) (result : Result (String Y) RunFault)
-      → AnswersText IsPlain format result (behind_lines (environment_from Second 1) names said y z)
-      → AnswersText (IsOfTexts vars First x) format result (texts_of (environment_from Second 1) vars extras x y z)
+  pub whole_check : (strict : Bool) (format : Format) (result : Result Checked RunFault)
+      → AnswersText IsPlain strict format result (behind_lines (environment_from Second 1) names said y z)
+      → AnswersText (IsOfTexts vars First x) strict format result (texts_of (environment_from Second 1) vars extras x y z)
   unfolding texts_of
-  whole_check format (Ok text) h = rw (e, l) h
-  whole_check format (Err fault) h =
+  whole_check strict format (Ok checked) h = rw (e, l) h
+  whole_check strict format (Err fault) h =
       rw (e, l) (refuses_texts vars First x fault (behind_lines (environment_from Second 1) names said y z) h)
 
-  module _ (bounds : Bounds) (nodes : List NodeRecord) (format : Format) (limit : ℕ) (Fits : Type 0) where
-    pub whole_matrix : (result : Result PiecesRecord RunFault)
+  module _ (bounds : Bounds) (nodes : List NodeRecord) (strict : Bool) (format : Format) (limit : ℕ) (Fits : Type 0) where
+    pub whole_matrix : (result : Result Judged RunFault)
         → Bounded
-        (λ text. AnswersAll IsPlain format limit bounds.cases text (behind_lines (environments_from Second) names said y z)) Fits
+        (λ judged. AnswersAll IsPlain strict format limit bounds.cases judged
+        (behind_lines (environments_from Second) names said y z)) Fits
         (λ fault. IsRead (behind_lines (environments_from Second) names said y z)
         (λ read. OutgrowsOrOver bounds nodes limit read.lines fault)) result
         → Bounded
-        (λ text. AnswersAll (IsOfTexts vars First x) format limit bounds.cases text
+        (λ judged. AnswersAll (IsOfTexts vars First x) strict format limit bounds.cases judged
         (texts_of (environments_from Second) vars extras x y z)) Fits
         (PassesIn bounds nodes limit vars x (texts_of (environments_from Second) vars extras x y z)) result
     unfolding texts_of
-    whole_matrix (Ok text) h = rw (e, l) h
+    whole_matrix (Ok judged) h = rw (e, l) h
     whole_matrix (Err fault) (inl (inl h)) =
         rw (e, l) (inl (inl (refuses_texts vars First x fault (behind_lines (environments_from Second) names said y z) h)))
     whole_matrix (Err fault) (inl (inr h)) = rw (e, l) (inl (inr h))
@@ -112,36 +113,38 @@ module _ {W : Type 0} (Answers : Answering) (Refused : Refusing) (contents : W �
       (λ input error. (input ≡ list) × IsErrorIn vars (text_lines bytes) error) fault h r
 
   -- or whose text was written
-  pub text_written : (text : List ℕ) → Answers inputs Answered text → (result : Result Status RunFault)
-      → WritesText contents old new text result → Runs Answers Refused told contents old new result
-  text_written text h (Ok status) w = answered Answers Refused contents old new told inputs are_told within Answered text h (Ok status) w
-  text_written text h (Err fault) (inl w) = answered Answers Refused contents old new told inputs are_told within Answered text h (Err fault) w
-  text_written text h (Err fault) (inr w) =
+  pub text_written : (status : Status) (text : List ℕ) → Answers inputs status text → (result : Result Status RunFault)
+      → WritesText contents old new text status result → Runs Answers Refused told contents old new result
+  text_written status text h (Ok ended) w = answered Answers Refused contents old new told inputs are_told within status text h (Ok ended) w
+  text_written status text h (Err fault) (inl w) = answered Answers Refused contents old new told inputs are_told within status text h (Err fault) w
+  text_written status text h (Err fault) (inr w) =
       let P : RunFault → Type 0 = λ f. EndsAs Answers Refused inputs contents old new (Err f) in
       record { inputs = inputs; are_told = are_told; ends = subst P (sym w.0) tt }
 
 -- nothing is written where the fault isn't the writer's
-pub unwritten : {W : Type 0} (contents : W → Option (List ℕ)) (old new : W) (text : List ℕ) (result : Result Status RunFault)
-    → WritesText contents old new text result → IfErr result (λ fault. fault ≢ Write → new ≡ old)
-unwritten contents old new text (Ok status) w = tt
-unwritten contents old new text (Err fault) (inl w) = λ other. absurd (other w.0)
-unwritten contents old new text (Err fault) (inr w) = λ other. w.1
+pub unwritten : {W : Type 0} (contents : W → Option (List ℕ)) (old new : W) (text : List ℕ) (status : Status)
+    (result : Result Status RunFault) → WritesText contents old new text status result
+    → IfErr result (λ fault. fault ≢ Write → new ≡ old)
+unwritten contents old new text status (Ok ended) w = tt
+unwritten contents old new text status (Err fault) (inl w) = λ other. absurd (other w.0)
+unwritten contents old new text status (Err fault) (inr w) = λ other. w.1
 
 -- `matrix` within bounds, whose inputs are read, and refused
 module _ {W : Type 0} (contents : W → Option (List ℕ)) (old new : W) (told : List (Option (List ℕ)))
     (vars : Variables) (extras : List (List ℕ)) (format : Format) (bounds : Bounds) (nodes : List NodeRecord) (limit : ℕ) where
-  pub within_refused : (inputs : List (List ℕ)) → AllZip AreAsTold told inputs → AreWithin inputs → (fault : RunFault)
+  pub within_refused : (strict : Bool) (inputs : List (List ℕ)) → AllZip AreAsTold told inputs → AreWithin inputs
+      → (fault : RunFault)
       → MatrixRefusesWithin bounds limit vars extras inputs fault ⊎ MatrixPasses bounds nodes limit vars extras inputs fault
-      → Runs (MatrixAnswersWithin bounds nodes format limit vars extras)
+      → Runs (MatrixAnswersBy strict bounds nodes format limit vars extras)
       (RefusesOr (MatrixPasses bounds nodes limit vars extras) (MatrixRefusesWithin bounds limit vars extras)) told contents old
       new (Err fault)
-  within_refused inputs are_told within fault (inl h) =
-      list_refused (MatrixAnswersWithin bounds nodes format limit vars extras)
+  within_refused strict inputs are_told within fault (inl h) =
+      list_refused (MatrixAnswersBy strict bounds nodes format limit vars extras)
       (RefusesOr (MatrixPasses bounds nodes limit vars extras) (MatrixRefusesWithin bounds limit vars extras)) contents old new
       told inputs are_told within vars First (of_input inputs First) fault
       (may_be_said vars First (of_input inputs First) limit bounds.cases fault (matrix_texts vars extras inputs) h) (inl h)
-  within_refused inputs are_told within fault (inr h) =
-      bound_passed (MatrixAnswersWithin bounds nodes format limit vars extras)
+  within_refused strict inputs are_told within fault (inr h) =
+      bound_passed (MatrixAnswersBy strict bounds nodes format limit vars extras)
       (RefusesOr (MatrixPasses bounds nodes limit vars extras) (MatrixRefusesWithin bounds limit vars extras)) contents old new
       told inputs are_told within fault (matrix_excess bounds nodes limit vars extras inputs fault h) (inr h)
 

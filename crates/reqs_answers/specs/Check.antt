@@ -1,5 +1,5 @@
 -- The command `check`, from the bytes of its inputs to the bytes of its answer.
-use Rattle.std.specs.Prelude.{◌≡◌, ◌||◌, ℕ, not, List, [], ◌∷◌, Option, Result, Ok, Err, String}
+use Rattle.std.specs.Prelude.{◌≡◌, ◌&&◌, ◌||◌, ℕ, Bool, not, List, [], ◌∷◌, Option, Result, Ok, Err}
 use Rattle.std.specs.String.{string_bytes}
 use Rattle.pep440_version.specs.Changes.{is_prerelease}
 use Rattle.pep508_url.specs.Vars.{Variables}
@@ -16,7 +16,9 @@ use Rattle.reqs_io_faults.specs.declared.fault.Status.{Status}
 use Rattle.reqs_io_faults.specs.declared.fault.Status.TheVariants.{Answered}
 use Rattle.reqs_io_faults.specs.Faults.{Cause, IsOfTexts, IsPlain, Refuses}
 use Rattle.reqs_io_faults.specs.Inputs.{environment_from}
-use Rattle.reqs_io_faults.specs.Ends.{of_input, Runs}
+use Rattle.reqs_io_faults.specs.Ends.{of_input, status_of_answer, Runs}
+use Rattle.reqs_answers.specs.declared.checks.Checked.{Checked}
+use Rattle.reqs_answers.specs.Strict.{has_none}
 use Rattle.reqs_answers.specs.Texts.{ReadTexts, texts_of}
 
 -- a pre-release or a developmental release is admitted if an applicable line has a specifier that names one,
@@ -35,11 +37,17 @@ pub record IsCheckText (format : Format) (texts : CheckTexts) (text : List ℕ) 
   pub is_text : IsAnswerIn format on_request (asks_of (valuation_of read.second read.extras) read.lines)
       read.candidates text
 
--- the text is that of the answer; or the texts are refused for this fault
-abbrev pub AnswersText : {Y : Type 0} → (RunFault → Type 0) → Format → Result (String Y) RunFault → CheckTexts
-    → Type 0
-AnswersText IsOne format (Ok text) texts = IsCheckText format texts (string_bytes text)
-AnswersText IsOne format (Err fault) texts = Refuses IsOne fault texts
+-- the text is that of the answer, and the status of a strict command says whether one of its rows is `none`
+abbrev pub IsCheckAnswer : Bool → Format → CheckTexts → Status → List ℕ → Type 0
+IsCheckAnswer strict format texts status text =
+    (answer : IsCheckText format texts text)
+    × (status ≡ status_of_answer (strict && has_none answer.is_text.0))
+
+-- a status and a text are those of the answer; or the texts are refused for this fault
+abbrev pub AnswersText : (RunFault → Type 0) → Bool → Format → Result Checked RunFault → CheckTexts → Type 0
+AnswersText IsOne strict format (Ok checked) texts =
+    IsCheckAnswer strict format texts checked.status (string_bytes checked.text)
+AnswersText IsOne strict format (Err fault) texts = Refuses IsOne fault texts
 
 -- what is answered to the candidates of a text that is read; or the text is refused for this fault
 abbrev pub AnswersRead : {X : Type 0} → (List Candidate → X → Type 0) → Result X RunFault
@@ -66,4 +74,17 @@ abbrev pub RunsCheck : {W : Type 0} → Format → Variables → List (List ℕ)
     → Option (List ℕ) → Option (List ℕ) → (W → Option (List ℕ)) → W → W → Result Status RunFault → Type 0
 RunsCheck format vars extras requirements environment candidates contents old new result =
     Runs (ChecksAs format vars extras) (CheckRefuses vars extras)
+    (requirements ∷ environment ∷ candidates ∷ []) contents old new result
+
+-- ---- strictly
+
+abbrev pub ChecksBy : Bool → Format → Variables → List (List ℕ) → List (List ℕ) → Status → List ℕ → Type 0
+ChecksBy strict format vars extras inputs =
+    IsCheckAnswer strict format (check_texts vars extras inputs)
+
+-- `check`, strict or not, ends with this result
+abbrev pub RunsCheckBy : {W : Type 0} → Bool → Format → Variables → List (List ℕ) → Option (List ℕ)
+    → Option (List ℕ) → Option (List ℕ) → (W → Option (List ℕ)) → W → W → Result Status RunFault → Type 0
+RunsCheckBy strict format vars extras requirements environment candidates contents old new result =
+    Runs (ChecksBy strict format vars extras) (CheckRefuses vars extras)
     (requirements ∷ environment ∷ candidates ∷ []) contents old new result

@@ -3,3 +3,4 @@ pub mod Check
 pub mod Matrix
 pub mod Frames
 pub mod Ready
+pub mod Strict

@@ -1,7 +1,7 @@
 -- The command `matrix`, from the bytes of its inputs to the bytes of its answers.
-use Rattle.std.specs.Prelude.{◌≡◌, ◌≤◌, ◌⊎◌, ℕ, suc, List, [], ◌∷◌, ◌++◌, length, codes}
+use Rattle.std.specs.Prelude.{◌≡◌, ◌≤◌, ◌⊎◌, ℕ, Bool, true, false, suc, List, [], ◌∷◌, ◌++◌, length, codes}
 use Rattle.std.specs.Prelude.{Option, Result, Ok, Err}
-use Rattle.std.specs.List.{AllZip}
+use Rattle.std.specs.List.{list_any, AllZip}
 use Rattle.std.specs.Fmt.{decimal}
 use Rattle.pep508_url.specs.Vars.{Variables}
 use Rattle.pep508_tree.specs.Meaning.{NodeRecord}
@@ -30,13 +30,14 @@ use Rattle.reqs_io_faults.specs.declared.fault.Status.{Status}
 use Rattle.reqs_io_faults.specs.declared.fault.Status.TheVariants.{Answered}
 use Rattle.reqs_io_faults.specs.Faults.{Cause, IsOfTexts, Refuses}
 use Rattle.reqs_io_faults.specs.Inputs.{environments_from}
-use Rattle.reqs_io_faults.specs.Ends.{of_input, Runs}
+use Rattle.reqs_io_faults.specs.Ends.{of_input, status_of_answer, Runs}
 use Rattle.reqs_io_faults.specs.Within.{PassesAt, Outgrows, RefusesOr}
 use Rattle.reqs_io_faults.specs.declared.bounds.Bounds.{Bounds}
 use Rattle.reqs_io_faults.specs.declared.bounds.Excess.TheVariants as excess
 use Rattle.reqs_io.specs.Front.{WritesWhole, AppendsFront}
-use Rattle.reqs_pieces.specs.Pieces.{PiecesRecord}
+use Rattle.reqs_answers.specs.declared.environments.Judged.{Judged}
 use Rattle.reqs_answers.specs.Check.{on_request}
+use Rattle.reqs_answers.specs.Strict.{has_none}
 use Rattle.reqs_answers.specs.Texts.{ReadTexts, texts_of}
 
 -- ---- the text
@@ -72,6 +73,14 @@ IsMatrixIn Json admits extras lines candidates environments text =
     (answers : List (List RowRecord)) × AreAnswers admits extras lines candidates environments answers
     × (text ≡ line_of (answers_value candidates answers))
 
+-- the status after the answers: that of a strict command says whether one of their rows is `none`
+abbrev pub HasStatus : Bool → List (List ℕ) → List LineRecord → List Candidate → List EnvironmentRecord
+    → Status → Type 0
+HasStatus true extras lines candidates environments status =
+    (answers : List (List RowRecord)) × AreAnswers on_request extras lines candidates environments answers
+    × (status ≡ status_of_answer (list_any has_none answers))
+HasStatus false extras lines candidates environments status = status ≡ Answered
+
 -- texts one after another, each after the line of its environment
 abbrev pub numbered : ℕ → List (List ℕ) → List ℕ
 numbered number [] = []
@@ -106,11 +115,12 @@ matrix_texts vars extras inputs =
     texts_of (environments_from Second) vars extras
     (of_input inputs First) (of_input inputs Second) (of_input inputs Third)
 
--- the text was written, or a prefix of it; or nothing, since memory ran out
-abbrev pub WritesText : {W : Type 0} → (W → Option (List ℕ)) → W → W → List ℕ → Result Status RunFault
-    → Type 0
-WritesText contents old new text (Ok status) = (status ≡ Answered) × WritesWhole contents old new text
-WritesText contents old new text (Err fault) =
+-- the text was written, and the command ends with this status; or a prefix of it was written; or nothing,
+-- since memory ran out
+abbrev pub WritesText : {W : Type 0} → (W → Option (List ℕ)) → W → W → List ℕ → Status
+    → Result Status RunFault → Type 0
+WritesText contents old new text status (Ok ended) = (ended ≡ status) × WritesWhole contents old new text
+WritesText contents old new text status (Err fault) =
     ((fault ≡ Write) × AppendsFront (contents old) (contents new) text) ⊎ ((fault ≡ Memory) × (new ≡ old))
 
 -- ---- the command
@@ -172,13 +182,19 @@ TablesWithin limit in_all nodes lines (Ok table) = BuildsWithin limit in_all nod
 TablesWithin limit in_all nodes lines (Err fault) =
     (fault ≡ Memory) ⊎ IsOverLimitWithin limit in_all lines fault
 
--- the text has the answers, from few cases; or the texts are refused for this fault, or, once all are parsed,
--- for a package that has too many cases
-abbrev pub AnswersAll : (RunFault → Type 0) → Format → ℕ → ℕ → Result PiecesRecord RunFault → MatrixTexts
+-- what is answered from few cases: the text has the answers, and the status is the one after them
+abbrev pub IsMatrixAnswer : Bool → Format → ℕ → ℕ → MatrixTexts → Status → List ℕ → Type 0
+IsMatrixAnswer strict format limit in_all texts status text =
+    IsRead texts (λ read. IsWithinLimit format limit read text × AreFewInAll limit in_all read.lines
+    × HasStatus strict read.extras read.lines read.candidates read.second status)
+
+-- a status and a text are those of the answers; or the texts are refused for this fault, or, once all are
+-- parsed, for a package that has too many cases
+abbrev pub AnswersAll : (RunFault → Type 0) → Bool → Format → ℕ → ℕ → Result Judged RunFault → MatrixTexts
     → Type 0
-AnswersAll IsOne format limit in_all (Ok text) texts =
-    IsRead texts (λ read. IsWithinLimit format limit read text.whole × AreFewInAll limit in_all read.lines)
-AnswersAll IsOne format limit in_all (Err fault) texts =
+AnswersAll IsOne strict format limit in_all (Ok judged) texts =
+    IsMatrixAnswer strict format limit in_all texts judged.status judged.text.whole
+AnswersAll IsOne strict format limit in_all (Err fault) texts =
     Refuses IsOne fault texts ⊎ IsRead texts (λ read. IsOverLimitWithin limit in_all read.lines fault)
 
 -- a bound was passed: on the nodes at a line of the requirements, or else one once all texts were parsed
@@ -213,5 +229,23 @@ abbrev pub RunsMatrixWithin : {W : Type 0} → Bounds → List NodeRecord → Fo
 RunsMatrixWithin bounds nodes format limit vars extras requirements environments candidates contents old new
     result =
     Runs (MatrixAnswersWithin bounds nodes format limit vars extras)
+    (RefusesOr (MatrixPasses bounds nodes limit vars extras) (MatrixRefusesWithin bounds limit vars extras))
+    (requirements ∷ environments ∷ candidates ∷ []) contents old new result
+
+-- ---- strictly
+
+abbrev pub MatrixAnswersBy : Bool → Bounds → List NodeRecord → Format → ℕ → Variables → List (List ℕ)
+    → List (List ℕ) → Status → List ℕ → Type 0
+MatrixAnswersBy strict bounds nodes format limit vars extras inputs status text =
+    IsMatrixAnswer strict format limit bounds.cases (matrix_texts vars extras inputs) status text
+    × (length nodes ≤ bounds.nodes)
+
+-- `matrix`, strict or not, ends with this result where the bounds are these, with these nodes afterwards
+abbrev pub RunsMatrixBy : {W : Type 0} → Bool → Bounds → List NodeRecord → Format → ℕ → Variables
+    → List (List ℕ) → Option (List ℕ) → Option (List ℕ) → Option (List ℕ) → (W → Option (List ℕ)) → W → W
+    → Result Status RunFault → Type 0
+RunsMatrixBy strict bounds nodes format limit vars extras requirements environments candidates contents old
+    new result =
+    Runs (MatrixAnswersBy strict bounds nodes format limit vars extras)
     (RefusesOr (MatrixPasses bounds nodes limit vars extras) (MatrixRefusesWithin bounds limit vars extras))
     (requirements ∷ environments ∷ candidates ∷ []) contents old new result

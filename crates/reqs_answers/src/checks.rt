@@ -6,7 +6,7 @@
 //! `check` and `matrix` read requirements, extras and candidates by one definition (`texts_of`), whose
 //! parameter is what the second text is.
 
-ghost use Rattle.std.specs.Prelude.{◌≡◌, ◌≢◌, List, All, map, length, IfErr, IfOk};
+ghost use Rattle.std.specs.Prelude.{◌≡◌, ◌≢◌, List, true, All, map, length, IfErr, IfOk};
 ghost use Rattle.std.specs.List.{AllZip};
 ghost use Rattle.pep508_url.specs.Vars.{Variables};
 ghost use Rattle.pep508_evaluation.specs.Valuations.{valuation_of};
@@ -18,10 +18,11 @@ ghost use Rattle.reqtable_streaming.specs.Selection.{IsSelection};
 ghost use Rattle.reqs_io_faults.specs.declared.fault.Input.TheVariants.{First, Second, Third};
 ghost use Rattle.reqs_io_faults.specs.Faults.{IsPlain, IsOfTexts};
 ghost use Rattle.reqs_io_faults.specs.Inputs.{environment_from, candidates_from};
-ghost use Rattle.reqs_answers.specs.Check.{on_request, AnswersRead, AnswersText, RunsCheck};
+ghost use Rattle.reqs_answers.specs.Check.{on_request, AnswersRead, AnswersText, RunsCheck, RunsCheckBy};
 ghost use Rattle.reqs_answers.specs.Texts.{behind_lines, texts_of};
 
 use crate::admitting::is_admitted;
+use crate::missing::rows_status;
 use pep508_environment::MarkerEnvironment;
 use pep508_name::ExtraName;
 use pep508_url::Vars;
@@ -35,6 +36,13 @@ use reqtable_requirements::MarkedLines;
 use reqtable_streaming::{Selection, judge_text};
 use std::alloc::Global;
 use std::io::{Read, Write};
+
+/// The text of an answer, and the status with which the command ends after it.
+#[derive(Drop)]
+pub(crate) struct Checked {
+    pub(crate) status: Status,
+    pub(crate) text: String,
+}
 
 /// Reads a list of requirements, an environment and a list of candidates, and writes the row of each package
 /// that an applicable line requires, with the extras that these lines name: the highest candidate that all of
@@ -67,10 +75,74 @@ pub fn check<L: Read, E: Read, C: Read, W: Write>(
     // A refused command has written nothing.
     ensures unwritten { IfErr result (λ fault. fault ≢ RunFault.Write → output.new ≡ output.old) }
 {
+    check_by(
+        alloc,
+        requirements,
+        environment,
+        candidates,
+        extras,
+        vars,
+        format,
+        false,
+        output,
+    )
+}
+
+/// Writes what `check` writes, and ends with `Status::Unsatisfied` if a row is `none`.
+///
+/// # Errors
+///
+/// Those of `check`.
+pub fn check_strict<L: Read, E: Read, C: Read, W: Write>(
+    alloc: Global,
+    requirements: &mut L,
+    environment: &mut E,
+    candidates: &mut C,
+    extras: &[&str],
+    vars: &Vars,
+    format: Format,
+    output: &mut W,
+) -> Result<Status, RunFault>
+    ensures runs { RunsCheckBy true format vars.now (map (λ e. e.now) extras.now)
+        (L.remaining requirements.old) (E.remaining environment.old) (C.remaining candidates.old)
+        W.contents output.old output.new result }
+    // A refused command has written nothing.
+    ensures unwritten { IfErr result (λ fault. fault ≢ RunFault.Write → output.new ≡ output.old) }
+{
+    check_by(
+        alloc,
+        requirements,
+        environment,
+        candidates,
+        extras,
+        vars,
+        format,
+        true,
+        output,
+    )
+}
+
+/// Writes the answer, and returns its status.
+fn check_by<L: Read, E: Read, C: Read, W: Write>(
+    alloc: Global,
+    requirements: &mut L,
+    environment: &mut E,
+    candidates: &mut C,
+    extras: &[&str],
+    vars: &Vars,
+    format: Format,
+    strict: bool,
+    output: &mut W,
+) -> Result<Status, RunFault>
+    ensures runs { RunsCheckBy strict format vars.now (map (λ e. e.now) extras.now)
+        (L.remaining requirements.old) (E.remaining environment.old) (C.remaining candidates.old)
+        W.contents output.old output.new result }
+    ensures unwritten { IfErr result (λ fault. fault ≢ RunFault.Write → output.new ≡ output.old) }
+{
     let mut requirements = read_input(alloc, Input::First, requirements)?;
     let mut environment = read_input(alloc, Input::Second, environment)?;
     let mut candidates = read_input(alloc, Input::Third, candidates)?;
-    let text = check_text(
+    let checked = check_text(
         alloc,
         &mut requirements,
         &mut environment,
@@ -78,11 +150,12 @@ pub fn check<L: Read, E: Read, C: Read, W: Write>(
         extras,
         vars,
         format,
+        strict,
     )?;
-    write_answer(output, text.as_str(), Status::Answered)
+    write_answer(output, checked.text.as_str(), checked.status)
 }
 
-/// The text of the answer. Drops the bytes of each input once they are parsed.
+/// The answer. Drops the bytes of each input once they are parsed.
 fn check_text(
     alloc: Global,
     requirements: &mut Vec<u8>,
@@ -91,8 +164,9 @@ fn check_text(
     extras: &[&str],
     vars: &Vars,
     format: Format,
-) -> Result<String, RunFault>
-    ensures { AnswersText (IsOfTexts vars.now First requirements.old.items) format result
+    strict: bool,
+) -> Result<Checked, RunFault>
+    ensures { AnswersText (IsOfTexts vars.now First requirements.old.items) strict format result
         (texts_of (environment_from Second 1) vars.now (map (λ e. e.now) extras.now)
         requirements.old.items environment.old.items candidates.old.items) }
 {
@@ -105,10 +179,11 @@ fn check_text(
         environment,
         candidates,
         format,
+        strict,
     )
 }
 
-/// The text of the answer for parsed requirements and extras.
+/// The answer for parsed requirements and extras.
 fn text_behind(
     alloc: Global,
     requirements: &MarkedLines,
@@ -116,15 +191,17 @@ fn text_behind(
     environment: &mut Vec<u8>,
     candidates: &mut Vec<u8>,
     format: Format,
-) -> Result<String, RunFault>
+    strict: bool,
+) -> Result<Checked, RunFault>
     ensures { (vars : Variables) (said : List LineRecord) → AllZip (SaysLine vars) requirements.now said →
-        AnswersText IsPlain format result (behind_lines (environment_from Second 1) extras.now said
+        AnswersText IsPlain strict format result (behind_lines (environment_from Second 1) extras.now said
         environment.old.items candidates.old.items) }
 {
     let environment = read_environment(alloc, Input::Second, 1, environment)?;
     let selection = selected(alloc, requirements, &environment, extras, candidates)?;
+    let status = rows_status(strict, &selection.answer);
     match reqs_json::answer_text(alloc, format, &selection.answer, &selection.candidates) {
-        Ok(text) => Ok(text),
+        Ok(text) => Ok(Checked { status, text }),
         Err(_) => Err(RunFault::Memory),
     }
 }

@@ -10,13 +10,15 @@ ghost use Rattle.reqtable_table.specs.Answers.{SamePackage};
 ghost use Rattle.reqtable_table.specs.Cases.{HasItsCases};
 ghost use Rattle.reqtable_table.specs.Kept.{KeepsAll};
 ghost use Rattle.reqs_answers.specs.Check.{on_request};
-ghost use Rattle.reqs_answers.specs.Matrix.{IsMatrixIn};
+ghost use Rattle.reqs_answers.specs.Matrix.{IsMatrixIn, HasStatus};
 ghost use Rattle.reqs_answers.specs.Ready.{nodes_in, IsReadyOnRequest, PutsEnvironment};
 
 use crate::admitting::is_admitted;
 use crate::frames::{put_closing, put_foot, put_head, put_opening};
+use crate::missing::answers_status;
 use pep440_version::Version;
 use pep508_environment::MarkerEnvironment;
+use reqs_io_faults::Status;
 use reqs_json::Format;
 use reqs_pieces::Pieces;
 use reqs_rows::{Answering, Query};
@@ -25,25 +27,40 @@ use reqtable_table::Table;
 use reqtable_table::lent::package_count;
 use std::alloc::{AllocError, Global};
 
+/// The text of all answers, and the status with which the command ends after it.
+#[derive(Drop)]
+pub(crate) struct Judged {
+    pub(crate) status: Status,
+    pub(crate) text: Pieces,
+}
+
 /// The answers of a table for all environments.
 pub(crate) fn answers_text(
     alloc: Global,
     table: Table,
     query: &Query<'_>,
     environments: &[MarkerEnvironment],
-) -> Result<Pieces, AllocError>
+    strict: bool,
+) -> Result<Judged, AllocError>
     requires { AllByRecursion (HasItsCases (nodes_in query.now)) table }
-    ensures { IfOk result (λ text. (said : List LineRecord) → KeepsAll (nodes_in query.now) table said →
+    ensures text { IfOk result (λ judged. (said : List LineRecord) →
+        KeepsAll (nodes_in query.now) table said →
         IsMatrixIn query.now.format on_request query.now.extras.now said query.now.candidates.now
-        environments.now text.whole) }
+        environments.now judged.text.whole) }
+    ensures status { IfOk result (λ judged. (said : List LineRecord) →
+        KeepsAll (nodes_in query.now) table said →
+        HasStatus strict query.now.extras.now said query.now.candidates.now environments.now
+        judged.status) }
 {
     let ordered = query.candidates.in_order(alloc)?;
     let runs = table.runs(alloc, &ordered)?;
     let room = room_for(query.format, package_count(&table), environments.len());
     let mut run = Answering::new(alloc, table, runs, room)?;
     let admission = Admission::new(|version, named| is_admitted(version, named));
+    let status = answers_status(alloc, &mut run, query, environments, &admission, strict)?;
     put_answers(alloc, &mut run, query, environments, &admission)?;
-    Ok(run.text)
+    let text = run.text;
+    Ok(Judged { status, text })
 }
 
 /// The most pieces that the answers for these numbers of packages and environments can have, or the greatest

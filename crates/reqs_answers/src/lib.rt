@@ -15,6 +15,7 @@ mod environments;
 mod frames;
 pub mod laws;
 mod matrices;
+mod missing;
 
-pub use checks::check;
-pub use matrices::{matrix, matrix_within};
+pub use checks::{check, check_strict};
+pub use matrices::{matrix, matrix_strict, matrix_within};

@@ -5,7 +5,7 @@
 //! the very definition by which `check` is stated; that it is what `check` writes is then a law, since an
 //! answer has one text.
 
-ghost use Rattle.std.specs.Prelude.{◌≡◌, ◌≢◌, ◌≤◌, List, length, map, IfErr};
+ghost use Rattle.std.specs.Prelude.{◌≡◌, ◌≢◌, ◌≤◌, List, true, length, map, IfErr};
 ghost use Rattle.std.specs.List.{AllZip};
 ghost use Rattle.pep508_url.specs.Vars.{Variables};
 ghost use Rattle.reqtable_requirements.specs.Asks.{AreOfNodes};
@@ -17,10 +17,10 @@ ghost use Rattle.reqs_io_faults.specs.Inputs.{environments_from};
 ghost use Rattle.reqs_io_faults.specs.Within.{Bounded};
 ghost use Rattle.reqs_answers.specs.Matrix.{AreRead, AnswersAll, TablesWithin, RunsMatrix, WritesText};
 ghost use Rattle.reqs_answers.specs.Matrix.{IsRead, PassesIn};
-ghost use Rattle.reqs_answers.specs.Matrix.{OutgrowsOrOver, unbuilt, RunsMatrixWithin};
+ghost use Rattle.reqs_answers.specs.Matrix.{OutgrowsOrOver, unbuilt, RunsMatrixWithin, RunsMatrixBy};
 ghost use Rattle.reqs_answers.specs.Texts.{behind_lines, texts_of};
 
-use crate::environments::answers_text;
+use crate::environments::{Judged, answers_text};
 use pep508_name::ExtraName;
 use pep508_tree::Interner;
 use pep508_url::Vars;
@@ -45,6 +45,7 @@ struct Request {
     limit: u64,
     format: Format,
     bounds: Bounds,
+    strict: bool,
 }
 
 /// Reads a list of requirements, a list of environments and a list of candidates, and writes for each
@@ -137,15 +138,92 @@ pub fn matrix_within<L: Read, E: Read, C: Read, W: Write>(
     // A refused command has written nothing.
     ensures unwritten { IfErr result (λ fault. fault ≢ RunFault.Write → output.new ≡ output.old) }
 {
-    let mut requirements = read_input(alloc, Input::First, requirements)?;
-    let mut environments = read_input(alloc, Input::Second, environments)?;
-    let mut candidates = read_input(alloc, Input::Third, candidates)?;
     let request = Request {
         limit,
         format,
         bounds,
+        strict: false,
     };
-    let text = matrix_text(
+    matrix_by(
+        alloc,
+        requirements,
+        environments,
+        candidates,
+        extras,
+        vars,
+        request,
+        interner,
+        output,
+    )
+}
+
+/// Writes what `matrix_within` writes, and ends with `Status::Unsatisfied` if a row of an environment is
+/// `none`. Asks the table for each environment twice.
+///
+/// # Errors
+///
+/// Those of `matrix_within`.
+pub fn matrix_strict<L: Read, E: Read, C: Read, W: Write>(
+    alloc: Global,
+    requirements: &mut L,
+    environments: &mut E,
+    candidates: &mut C,
+    extras: &[&str],
+    vars: &Vars,
+    limit: u64,
+    format: Format,
+    bounds: Bounds,
+    interner: &mut Interner,
+    output: &mut W,
+) -> Result<Status, RunFault>
+    requires { length interner.old.nodes ≤ bounds.nodes }
+    ensures runs { RunsMatrixBy true bounds interner.new.nodes format limit vars.now
+        (map (λ e. e.now) extras.now) (L.remaining requirements.old) (E.remaining environments.old)
+        (C.remaining candidates.old) W.contents output.old output.new result }
+    // A refused command has written nothing.
+    ensures unwritten { IfErr result (λ fault. fault ≢ RunFault.Write → output.new ≡ output.old) }
+{
+    let request = Request {
+        limit,
+        format,
+        bounds,
+        strict: true,
+    };
+    matrix_by(
+        alloc,
+        requirements,
+        environments,
+        candidates,
+        extras,
+        vars,
+        request,
+        interner,
+        output,
+    )
+}
+
+/// Writes the answers, and returns their status.
+fn matrix_by<L: Read, E: Read, C: Read, W: Write>(
+    alloc: Global,
+    requirements: &mut L,
+    environments: &mut E,
+    candidates: &mut C,
+    extras: &[&str],
+    vars: &Vars,
+    request: Request,
+    interner: &mut Interner,
+    output: &mut W,
+) -> Result<Status, RunFault>
+    requires { length interner.old.nodes ≤ request.bounds.nodes }
+    ensures runs { RunsMatrixBy request.strict request.bounds interner.new.nodes request.format
+        request.limit vars.now (map (λ e. e.now) extras.now) (L.remaining requirements.old)
+        (E.remaining environments.old) (C.remaining candidates.old) W.contents output.old output.new result }
+    ensures unwritten { IfErr result (λ fault. fault ≢ RunFault.Write → output.new ≡ output.old) }
+{
+    let mut requirements = read_input(alloc, Input::First, requirements)?;
+    let mut environments = read_input(alloc, Input::Second, environments)?;
+    let mut candidates = read_input(alloc, Input::Third, candidates)?;
+    let judged = matrix_text(
         alloc,
         &mut requirements,
         &mut environments,
@@ -155,24 +233,29 @@ pub fn matrix_within<L: Read, E: Read, C: Read, W: Write>(
         request,
         interner,
     )?;
-    write_text(alloc, &text, output)
+    write_text(alloc, &judged.text, judged.status, output)
 }
 
 /// Writes the text of all answers through a buffer, which is allocated before the first write.
-fn write_text<W: Write>(alloc: Global, text: &Pieces, output: &mut W) -> Result<Status, RunFault>
-    ensures { WritesText W.contents output.old output.new text.now.whole result }
+fn write_text<W: Write>(
+    alloc: Global,
+    text: &Pieces,
+    status: Status,
+    output: &mut W,
+) -> Result<Status, RunFault>
+    ensures { WritesText W.contents output.old output.new text.now.whole status result }
 {
     let Ok(buffer) = Vec::with_capacity(alloc, WAITING_BYTES) else {
         return Err(RunFault::Memory);
     };
     let mut buffer = buffer;
     match text.write_through(&mut buffer, output) {
-        Ok(()) => Ok(Status::Answered),
+        Ok(()) => Ok(status),
         Err(_) => Err(RunFault::Write),
     }
 }
 
-/// The text of all answers. Drops the bytes of each input once they are parsed.
+/// All answers. Drops the bytes of each input once they are parsed.
 fn matrix_text(
     alloc: Global,
     requirements: &mut Vec<u8>,
@@ -182,12 +265,12 @@ fn matrix_text(
     vars: &Vars,
     request: Request,
     interner: &mut Interner,
-) -> Result<Pieces, RunFault>
+) -> Result<Judged, RunFault>
     requires { length interner.old.nodes ≤ request.bounds.nodes }
     ensures { let texts = texts_of (environments_from Second) vars.now (map (λ e. e.now) extras.now)
         requirements.old.items environments.old.items candidates.old.items in
-        Bounded (λ text. AnswersAll (IsOfTexts vars.now First requirements.old.items)
-        request.format request.limit request.bounds.cases text texts)
+        Bounded (λ judged. AnswersAll (IsOfTexts vars.now First requirements.old.items)
+        request.strict request.format request.limit request.bounds.cases judged texts)
         (length interner.new.nodes ≤ request.bounds.nodes)
         (PassesIn request.bounds interner.new.nodes request.limit vars.now requirements.old.items texts)
         result }
@@ -212,7 +295,7 @@ fn matrix_text(
     )
 }
 
-/// The text of all answers for parsed requirements and extras.
+/// All answers for parsed requirements and extras.
 fn matrix_behind(
     alloc: Global,
     requirements: Requirements,
@@ -221,13 +304,14 @@ fn matrix_behind(
     environments: &mut Vec<u8>,
     candidates: &mut Vec<u8>,
     request: Request,
-) -> Result<Pieces, RunFault>
+) -> Result<Judged, RunFault>
     requires { AreRead interner.old.nodes requirements }
     ensures { (vars : Variables) (said : List LineRecord) →
         AllZip (StandsFor vars interner.old.nodes) requirements said →
         let texts = behind_lines (environments_from Second) extras.now said
         environments.old.items candidates.old.items in
-        Bounded (λ text. AnswersAll IsPlain request.format request.limit request.bounds.cases text texts)
+        Bounded (λ judged. AnswersAll IsPlain request.strict request.format request.limit
+        request.bounds.cases judged texts)
         (length interner.new.nodes ≤ request.bounds.nodes)
         (λ fault. IsRead texts (λ read.
         OutgrowsOrOver request.bounds interner.new.nodes request.limit read.lines fault)) result }
@@ -241,8 +325,8 @@ fn matrix_behind(
         candidates: &candidates,
         format: request.format,
     };
-    match answers_text(alloc, table, &query, &environments) {
-        Ok(text) => Ok(text),
+    match answers_text(alloc, table, &query, &environments, request.strict) {
+        Ok(judged) => Ok(judged),
         Err(_) => Err(RunFault::Memory),
     }
 }

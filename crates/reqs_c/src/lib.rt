@@ -5,6 +5,8 @@
 //! precondition, and none keeps anything. The contract of each says what its reply and the caller's buffer
 //! are, in terms of the texts.
 
+mod assuming;
+mod json_assuming;
 mod json_lists;
 mod lists;
 mod markers;

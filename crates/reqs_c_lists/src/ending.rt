@@ -11,7 +11,7 @@ use std::alloc::Global;
 
 /// The end of a call whose command returned `ran` and wrote this text. `names` are those of the inputs, and
 /// the argument of the number `extras` has the extras.
-pub(crate) fn ended(
+pub fn ended(
     alloc: Global,
     ran: Result<Status, RunFault>,
     text: Vec<u8>,
@@ -23,6 +23,8 @@ pub(crate) fn ended(
     match ran {
         Ok(Status::Answered) => Ended::Answered(text),
         Ok(Status::Different) => Ended::Different(text),
+        // (no call is strict, so no command ends so)
+        Ok(Status::Unsatisfied) => Ended::OutOfMemory,
         Err(fault) => refused(alloc, &fault, names, extras),
     }
 }

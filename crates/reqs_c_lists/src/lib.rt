@@ -4,6 +4,7 @@
 mod checking;
 mod ending;
 mod holding;
+pub mod lent;
 mod list_answers;
 mod refused_inputs;
 

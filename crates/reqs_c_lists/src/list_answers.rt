@@ -16,16 +16,16 @@ use reqs_json::Format;
 use std::alloc::Global;
 
 /// The names of the inputs of `same` in messages.
-const SAME_NAMES: [&str; 2] = ["left", "right"];
+pub const SAME_NAMES: [&str; 2] = ["left", "right"];
 
 /// The names of the inputs of `covers` in messages.
-const COVERS_NAMES: [&str; 2] = ["lock", "requirements"];
+pub const COVERS_NAMES: [&str; 2] = ["lock", "requirements"];
 
 /// The name of the input of the other commands in messages.
-const LIST_NAMES: [&str; 1] = ["requirements"];
+pub const LIST_NAMES: [&str; 1] = ["requirements"];
 
 /// The number of the argument with the extras where there is none.
-const NO_EXTRAS: u32 = 0;
+pub const NO_EXTRAS: u32 = 0;
 
 /// Replies with what `reqs::same` writes in this format, with at most `limit` cases for a package and within
 /// the bounds. Ends with `Ended::Different` for lists that don't require the same. Needs memory for copies of

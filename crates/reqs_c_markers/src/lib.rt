@@ -9,6 +9,6 @@ mod refused_text;
 mod requirement_answer;
 
 pub use bounds::{Bounds, tree_within};
-pub use marker_answers::{mark_of_line, marker, marker_check, read_marker};
+pub use marker_answers::{mark_of_line, marker, marker_check, read_formula, read_marker};
 pub use normal_texts::{TextFault, normal_text};
 pub use requirement_answer::{no_variables, requirement};

@@ -107,7 +107,7 @@ pub fn read_marker(
 /// # Errors
 ///
 /// How the call ends: refused at argument `input` if it is not a marker, or out of memory.
-fn read_formula(alloc: Global, input: u32, bytes: &[u8]) -> Result<MarkerFormula, Ended>
+pub fn read_formula(alloc: Global, input: u32, bytes: &[u8]) -> Result<MarkerFormula, Ended>
     ensures formula { IfOk result (IsFormulaIn bytes.now) }
     ensures none { IfErr result (λ ended.
         EndsIn NoAnswer (RefusesMarker input bytes.now) (ending_of ended)) }

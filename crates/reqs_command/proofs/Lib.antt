@@ -1,5 +1,2 @@
 pub mod Roots
 pub mod Limits
-pub mod Plain
-pub mod Told
-pub mod Refused

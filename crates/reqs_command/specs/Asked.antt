@@ -1,12 +1,18 @@
 -- The command that the words of the command line name.
-use Rattle.std.specs.Prelude.{◌≡◌, ◌≢◌, ◌<◌, ◌-◌, ◌^◌, ◌&&◌, ℕ, List, [], ◌∷◌, codes, map, Option, Some, None}
-use Rattle.std.specs.Prelude.{is_none, unwrap_or, if◌then◌else◌}
+use Rattle.std.specs.Prelude.{◌≡◌, ◌≢◌, ◌<◌, ◌-◌, ◌^◌, ◌&&◌, ℕ, Bool, true, false, List, [], ◌∷◌, codes, map}
+use Rattle.std.specs.Prelude.{Option, Some, None, is_none, unwrap_or, if◌then◌else◌, Result, Ok, Err}
 use Rattle.std.specs.Str.Parse.{IsNumeral, digits_value, without_leading_plus}
 use Rattle.clap.specs.Words.{first_value, one_text}
 use Rattle.clap.specs.declared.parser.matches.Found.{Found}
+use Rattle.pep508_url.specs.UrlTexts.{Verbatim}
+use Rattle.pep508_url.specs.declared.url_error.VerbatimUrlError.{VerbatimUrlError}
+use Rattle.pep508_error.specs.declared.error.Pep508Error.{Pep508Error}
+use Rattle.pep508_marker.specs.Expression.{ExpressionRecord}
+use Rattle.pep508_formula.specs.Postfix.{Part}
 use Rattle.reqs_io_faults.specs.declared.bounds.Bounds.{Bounds}
 use Rattle.reqs_json.specs.declared.format.Format.{Format}
 use Rattle.reqs_json.specs.declared.format.Format.TheVariants.{Text, Json}
+use Rattle.reqs_assuming.specs.Conditions.{ReadsCondition}
 use Rattle.reqs_command.specs.declared.request.Asked.{Asked}
 use Rattle.reqs_command.specs.declared.request.Asked.TheVariants.{Check, Matrix, Same, Covers}
 use Rattle.reqs_command.specs.declared.request.Asked.TheVariants.{Conflicts, Normal}
@@ -88,11 +94,20 @@ NamesFormat word Text = word ≢ codes "json"
 abbrev pub IsToldFormat : Found → Format → Type 0
 IsToldFormat found format = NamesFormat (text_at (first_value found (codes "format"))) format
 
+-- the words ask for a strict command, or not
+pub record IsToldStrict (found : Found) (strict : Bool) : Type 0 where
+  pub unnamed : one_text found (codes "strict") ≡ None → strict ≡ false
+  pub named : one_text found (codes "strict") ≡ Some (codes "true") → strict ≡ true
+  pub other : one_text found (codes "strict") ≡ Some (codes "false") → strict ≡ false
+
 -- ---- bounds
 
 -- the greatest number of 64 bits
 abbrev pub greatest : ℕ
 greatest = 2 ^ 64 - 1
+
+abbrev pub greatest_bounds : Bounds
+greatest_bounds = record { nodes = greatest; clauses = greatest; cases = greatest }
 
 -- bounds of three numbers, of which those left out are the greatest; none if all are left out
 abbrev pub bounds_from : Option ℕ → Option ℕ → Option ℕ → Option Bounds
@@ -104,6 +119,10 @@ bounds_from nodes clauses cases =
       cases = unwrap_or cases greatest;
     })
 
+-- bounds, or the greatest
+abbrev pub bounds_or_greatest : Option Bounds → Bounds
+bounds_or_greatest bounds = unwrap_or bounds greatest_bounds
+
 -- the bounds are those in the words
 pub record AreToldBounds (found : Found) (result : Option Bounds) : Type 0 where
   pub nodes : Option ℕ
@@ -113,3 +132,13 @@ pub record AreToldBounds (found : Found) (result : Option Bounds) : Type 0 where
   pub clauses_told : LimitIs (one_text found (codes "clauses")) clauses
   pub cases_told : LimitIs (one_text found (codes "cases")) cases
   pub is : result ≡ bounds_from nodes clauses cases
+
+-- ---- the assumption
+
+-- the condition is the one in the words, none if they have none; or this is what is wrong with it
+abbrev pub IsToldCondition : Option (List ℕ)
+    → Result (Option (List (Part ExpressionRecord))) (Pep508Error Verbatim VerbatimUrlError) → Type 0
+IsToldCondition None result = result ≡ Ok None
+IsToldCondition (Some text) (Ok (Some parts)) = ReadsCondition text (Ok parts)
+IsToldCondition (Some text) (Ok None) = ⊥
+IsToldCondition (Some text) (Err error) = ReadsCondition text (Err error)

@@ -3,4 +3,3 @@ pub mod Asked
 pub mod Opened
 pub mod Exits
 pub mod Source
-pub mod Shown

@@ -1,7 +1,9 @@
 //! The command line: which files are opened, what is printed for a fault, and the exit status.
 
-ghost use Rattle.std.specs.Prelude.{◌≡◌, map, string_bytes, Result, IfErr, IfOk};
+ghost use Rattle.std.specs.Prelude.{◌≡◌, ◌≢◌, map, option_map, string_bytes, Result, IfErr, IfOk};
 ghost use Rattle.std.specs.Process.{exit_status};
+ghost use Rattle.pep508_error.specs.declared.error.Pep508ErrorSource.TheVariants.{Memory};
+ghost use Rattle.pep508_formula.specs.Postfix.{formula_of};
 ghost use Rattle.reqs_io_faults.specs.Faults.{status_of};
 ghost use Rattle.reqs_command.specs.Exits.{status_after};
 ghost use Rattle.reqs_command.specs.Opened.{RunsOpened};
@@ -9,15 +11,17 @@ ghost use Rattle.reqs_command.specs.Source.{IfFile, IsAboveStandard};
 ghost use Rattle.reqs_command.specs.Variables.{variables_in};
 
 use crate::opened::{open_all, run_read};
-use crate::request::{Asked, bounds_of, format_of, matches};
-use crate::shown::{shown_fault, shown_lines, shown_text};
+use crate::request::{Asked, Options, condition_of, format_of, matches, options_of};
 use crate::source::{Source, open_file};
 use crate::variables::{entries, variables};
 use crate::words::{WordsFault, words};
 use clap::error::ErrorKind;
 use clap::{ArgMatches, Error};
-use reqs_io_faults::{Bounds, Input, RunFault, Status};
-use reqs_json::{Format, fault_line, memory_line, usage_line};
+use pep508_error::{Pep508Error, Pep508ErrorSource};
+use pep508_url::VerbatimUrl;
+use reqs_io_faults::{Input, RunFault, Status};
+use reqs_json::{Format, assumption_line, fault_line, memory_line, usage_line};
+use reqs_messages::{requirement_text, shown_fault, shown_lines, shown_text};
 use std::alloc::{AllocError, Global};
 use std::io::{self, Read, Write};
 use std::os::fd::AsRawFd;
@@ -58,8 +62,35 @@ where
     R::File: AsRawFd,
 {
     match Asked::of_words(name, given) {
-        Some(asked) => run_asked(rt, asked, format_of(given), given),
+        Some(asked) => match condition_of(rt.alloc(), given) {
+            Ok(condition) => run_asked(rt, asked, &options_of(given, condition.as_ref()), given),
+            Err(error) => refuse_assumption(rt, format_of(given), &error),
+        },
         None => ExitCode::from(USAGE_STATUS),
+    }
+}
+
+/// Prints why an assumption is no marker, and ends with status 2; with 3 if memory ran out.
+fn refuse_assumption<R: Runtime + AllocGlobal>(
+    rt: &R,
+    format: Format,
+    error: &Pep508Error<VerbatimUrl>,
+) -> ExitCode
+    ensures refused { error.now.message ≢ Memory → exit_status result ≡ 2 }
+    ensures memory { error.now.message ≡ Memory → exit_status result ≡ 3 }
+{
+    if let Pep508ErrorSource::Memory = error.message() {
+        return end_without_memory(rt, format, MEMORY_STATUS);
+    }
+    match format {
+        Format::Text => match requirement_text(rt.alloc(), "assumption", 1, error) {
+            Ok(text) => end(rt, USAGE_STATUS, text.as_str()),
+            Err(_) => end(rt, USAGE_STATUS, "out of memory"),
+        },
+        Format::Json => match assumption_line(rt.alloc(), error) {
+            Ok(line) => end_with(rt, USAGE_STATUS, line.as_str()),
+            Err(_) => end_with(rt, USAGE_STATUS, memory_line()),
+        },
     }
 }
 
@@ -107,30 +138,29 @@ fn words_text(alloc: Global, error: &Error, words: &[String]) -> Result<String, 
     shown_lines(alloc, text.as_str())
 }
 
-/// Runs a command on the files that were named.
+/// Runs a command with these options on the files that were named.
 fn run_asked<R: Runtime + AllocGlobal>(
     rt: &R,
     asked: Asked,
-    format: Format,
+    options: &Options<'_>,
     given: &ArgMatches<'_>,
 ) -> ExitCode
 where
     R::File: AsRawFd,
 {
     let Ok(paths) = asked.paths(rt.alloc(), given) else {
-        return end_without_memory(rt, format, MEMORY_STATUS);
+        return end_without_memory(rt, options.format, MEMORY_STATUS);
     };
     if paths.iter().filter(|path| **path == STANDARD_INPUT).count() > 1 {
-        return refuse_inputs(rt, format);
+        return refuse_inputs(rt, options.format);
     }
     let Ok(entries) = entries(rt, rt.alloc()) else {
-        return end_without_memory(rt, format, MEMORY_STATUS);
+        return end_without_memory(rt, options.format, MEMORY_STATUS);
     };
     end_asked(
         rt,
         asked,
-        format,
-        bounds_of(given),
+        options,
         &paths,
         given.get_strs("EXTRA").unwrap_or(&[]),
         &entries,
@@ -143,8 +173,7 @@ where
 fn end_asked<R, S, F, W>(
     rt: &R,
     asked: Asked,
-    format: Format,
-    bounds: Option<Bounds>,
+    options: &Options<'_>,
     paths: &[&str],
     extras: &[&str],
     entries: &[String],
@@ -157,30 +186,22 @@ where
     F: Fn(Input) -> Result<S, RunFault>,
     W: Write,
     requires { F.IsAlwaysCallable opener }
-    ensures { (ended : Result Status RunFault) × RunsOpened bounds asked format (F.post opener) S.remaining
-        (variables_in (map string_bytes entries.now)) (map (λ e. e.now) extras.now)
+    ensures { (ended : Result Status RunFault)
+        × RunsOpened (option_map (λ c. formula_of c.now) options.now.condition) options.now.strict
+        options.now.bounds asked options.now.format (F.post opener)
+        S.remaining (variables_in (map string_bytes entries.now)) (map (λ e. e.now) extras.now)
         W.contents output.old output.new ended × (exit_status result ≡ status_after ended) }
 {
-    let ended = run_opened(
-        rt.alloc(),
-        asked,
-        format,
-        bounds,
-        extras,
-        entries,
-        opener,
-        output,
-    );
-    exit_after(rt, format, &ended, paths)
+    let ended = run_opened(rt.alloc(), asked, options, extras, entries, opener, output);
+    exit_after(rt, options.format, &ended, paths)
 }
 
-/// Opens all inputs, in the order of the command line, and runs a command on them, within bounds if there are
-/// any, with the environment variables in `entries`.
+/// Opens all inputs, in the order of the command line, and runs a command on them with these options, and
+/// with the environment variables in `entries`.
 fn run_opened<S, F, W>(
     alloc: Global,
     asked: Asked,
-    format: Format,
-    bounds: Option<Bounds>,
+    options: &Options<'_>,
     extras: &[&str],
     entries: &[String],
     opener: F,
@@ -191,13 +212,14 @@ where
     F: Fn(Input) -> Result<S, RunFault>,
     W: Write,
     requires { F.IsAlwaysCallable opener }
-    ensures { RunsOpened bounds asked format (F.post opener) S.remaining
-        (variables_in (map string_bytes entries.now)) (map (λ e. e.now) extras.now)
+    ensures { RunsOpened (option_map (λ c. formula_of c.now) options.now.condition) options.now.strict
+        options.now.bounds asked options.now.format (F.post opener)
+        S.remaining (variables_in (map string_bytes entries.now)) (map (λ e. e.now) extras.now)
         W.contents output.old output.new result }
 {
     let mut opened = open_all(asked, opener)?;
     let vars = variables(alloc, entries)?;
-    run_read(alloc, &mut opened, extras, &vars, format, bounds, output)
+    run_read(alloc, &mut opened, extras, &vars, options, output)
 }
 
 /// Ends the program with the exit status of the command's result, and prints why if it is a fault.

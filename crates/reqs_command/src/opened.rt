@@ -1,17 +1,21 @@
 //! The opened inputs of a command, and running the command on them.
 
-ghost use Rattle.std.specs.Prelude.{◌≡◌, map};
+ghost use Rattle.std.specs.Prelude.{◌≡◌, true, false, map, option_map};
+ghost use Rattle.pep508_formula.specs.Postfix.{formula_of};
+ghost use Rattle.reqs_command.specs.Asked.{bounds_or_greatest};
 ghost use Rattle.reqs_command.specs.Opened.{asked_of, readers_of, Opens, RunsAsked, RunsWithin};
-ghost use Rattle.reqs_command.specs.Opened.{RunsBounded};
+ghost use Rattle.reqs_command.specs.Opened.{RunsBy, RunsStrictly, RunsWhere};
 
-use crate::request::Asked;
+use crate::request::{Asked, Options};
 use pep508_tree::Interner;
 use pep508_url::Vars;
-use reqs_answers::{check, matrix, matrix_within};
+use reqs_answers::{check, check_strict, matrix, matrix_strict, matrix_within};
+use reqs_assuming::{Terms, conflicts_where, covers_where, same_where};
 use reqs_io_faults::{Bounds, Input, RunFault, Status};
 use reqs_json::Format;
 use reqs_lists::{
-    conflicts, conflicts_within, covers, covers_within, normal, normal_within, same, same_within,
+    conflicts, conflicts_strict, conflicts_within, covers, covers_within, normal, normal_within,
+    same, same_within,
 };
 use std::alloc::Global;
 use std::io::{Read, Write};
@@ -94,7 +98,7 @@ where
     }
 }
 
-/// Runs a command on its inputs, within bounds if there are any, with its output in a format.
+/// Runs a command on its inputs with these options.
 ///
 /// # Errors
 ///
@@ -104,16 +108,140 @@ pub fn run_read<S: Read + Drop, W: Write>(
     opened: &mut Opened<S>,
     extras: &[&str],
     vars: &Vars,
-    format: Format,
-    bounds: Option<Bounds>,
+    options: &Options<'_>,
     output: &mut W,
 ) -> Result<Status, RunFault>
-    ensures { RunsBounded bounds (asked_of opened.old) format vars.now (map (λ e. e.now) extras.now)
+    ensures { RunsBy (option_map (λ c. formula_of c.now) options.now.condition) options.now.strict
+        options.now.bounds (asked_of opened.old) options.now.format vars.now (map (λ e. e.now) extras.now)
         (map S.remaining (readers_of opened.old)) W.contents output.old output.new result }
 {
-    match bounds {
+    let format = options.format;
+    if let Some(condition) = options.condition {
+        let terms = Terms {
+            vars,
+            condition,
+            format,
+            bounds: bounds_or_greatest(options.bounds),
+        };
+        return run_where(alloc, opened, extras, &terms, options.strict, output);
+    }
+    if options.strict {
+        let bounds = bounds_or_greatest(options.bounds);
+        return run_strict(alloc, opened, extras, vars, format, bounds, output);
+    }
+    match options.bounds {
         None => run_unbounded(alloc, opened, extras, vars, format, output),
         Some(bounds) => run_within(alloc, opened, extras, vars, format, bounds, output),
+    }
+}
+
+/// Runs a command on its inputs where a condition holds, within bounds. Commands that judge candidates, and
+/// `normal`, know no condition.
+fn run_where<S: Read + Drop, W: Write>(
+    alloc: Global,
+    opened: &mut Opened<S>,
+    extras: &[&str],
+    terms: &Terms<'_>,
+    strict: bool,
+    output: &mut W,
+) -> Result<Status, RunFault>
+    ensures { RunsWhere (formula_of terms.now.condition.now) strict terms.now.bounds (asked_of opened.old)
+        terms.now.format terms.now.vars.now (map (λ e. e.now) extras.now)
+        (map S.remaining (readers_of opened.old)) W.contents output.old output.new result }
+{
+    let mut nodes = Interner::with_most(alloc, terms.bounds.nodes);
+    match opened {
+        Opened::Same { left, right, limit } => {
+            same_where(alloc, left, right, *limit, terms, &mut nodes, output)
+        }
+        Opened::Covers {
+            lock,
+            requirements,
+            limit,
+        } => covers_where(alloc, lock, requirements, *limit, terms, &mut nodes, output),
+        Opened::Conflicts {
+            requirements,
+            limit,
+        } => conflicts_where(
+            alloc,
+            requirements,
+            *limit,
+            strict,
+            terms,
+            &mut nodes,
+            output,
+        ),
+        opened => run_conditionless(alloc, opened, extras, terms, strict, output),
+    }
+}
+
+/// Runs a command that knows no condition on its inputs, within bounds.
+fn run_conditionless<S: Read + Drop, W: Write>(
+    alloc: Global,
+    opened: &mut Opened<S>,
+    extras: &[&str],
+    terms: &Terms<'_>,
+    strict: bool,
+    output: &mut W,
+) -> Result<Status, RunFault>
+    ensures strict { strict ≡ true → RunsStrictly terms.now.bounds (asked_of opened.old) terms.now.format
+        terms.now.vars.now (map (λ e. e.now) extras.now) (map S.remaining (readers_of opened.old))
+        W.contents output.old output.new result }
+    ensures lenient { strict ≡ false → RunsWithin terms.now.bounds (asked_of opened.old) terms.now.format
+        terms.now.vars.now (map (λ e. e.now) extras.now) (map S.remaining (readers_of opened.old))
+        W.contents output.old output.new result }
+{
+    let (vars, format, bounds) = (terms.vars, terms.format, terms.bounds);
+    if strict {
+        return run_strict(alloc, opened, extras, vars, format, bounds, output);
+    }
+    run_within(alloc, opened, extras, vars, format, bounds, output)
+}
+
+/// These bounds, or the greatest if there are none.
+fn bounds_or_greatest(bounds: Option<Bounds>) -> Bounds
+    ensures { result ≡ bounds_or_greatest bounds }
+{
+    bounds.unwrap_or(Bounds::none())
+}
+
+/// Runs a strict command on its inputs within bounds.
+fn run_strict<S: Read + Drop, W: Write>(
+    alloc: Global,
+    opened: &mut Opened<S>,
+    extras: &[&str],
+    vars: &Vars,
+    format: Format,
+    bounds: Bounds,
+    output: &mut W,
+) -> Result<Status, RunFault>
+    ensures { RunsStrictly bounds (asked_of opened.old) format vars.now (map (λ e. e.now) extras.now)
+        (map S.remaining (readers_of opened.old)) W.contents output.old output.new result }
+{
+    let mut nodes = Interner::with_most(alloc, bounds.nodes);
+    match opened {
+        Opened::Check {
+            requirements: first,
+            environment: second,
+            candidates: third,
+        } => check_strict(alloc, first, second, third, extras, vars, format, output),
+        Opened::Matrix {
+            requirements: first,
+            environments: second,
+            candidates: third,
+            limit,
+        } => matrix_strict(
+            alloc, first, second, third, extras, vars, *limit, format, bounds, &mut nodes, output,
+        ),
+        Opened::Conflicts {
+            requirements: first,
+            limit,
+        } => conflicts_strict(
+            alloc, first, vars, *limit, format, bounds, &mut nodes, output,
+        ),
+        Opened::Same { .. } | Opened::Covers { .. } | Opened::Normal { .. } => {
+            run_within(alloc, opened, extras, vars, format, bounds, output)
+        }
     }
 }
 

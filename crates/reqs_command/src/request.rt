@@ -6,8 +6,13 @@ ghost use Rattle.std.specs.Prelude.{◌≡◌, map, codes, IfOk};
 ghost use Rattle.clap.specs.Words.{first_value, found_of, one_text};
 ghost use Rattle.reqs_command.specs.Asked.{text_at, paths_in, LimitIs, AsksFor, NamesLimited};
 ghost use Rattle.reqs_command.specs.Asked.{NamesFormat, IsToldFormat, bounds_from, AreToldBounds};
+ghost use Rattle.reqs_command.specs.Asked.{IsToldCondition, IsToldStrict};
 
-use clap::{Arg, ArgMatches, Command, Error};
+use clap::{Arg, ArgAction, ArgMatches, Command, Error};
+use pep508_error::Pep508Error;
+use pep508_formula::MarkerFormula;
+use pep508_url::VerbatimUrl;
+use reqs_assuming::read_condition;
 use reqs_io_faults::Bounds;
 use reqs_json::Format;
 use std::alloc::{AllocError, Global};
@@ -90,6 +95,31 @@ impl Asked {
     }
 }
 
+/// How a command is asked to run, whichever it is.
+#[derive(Clone, Copy)]
+pub struct Options<'a> {
+    pub format: Format,
+    /// The environments and extras that count are those for which this holds; all without it.
+    pub condition: Option<&'a MarkerFormula>,
+    pub strict: bool,
+    pub bounds: Option<Bounds>,
+}
+
+/// The options that the words name, with the condition that they assume.
+pub fn options_of<'a>(given: &ArgMatches<'_>, condition: Option<&'a MarkerFormula>) -> Options<'a>
+    ensures format { IsToldFormat (found_of given.now) result.format }
+    ensures condition { result.condition ≡ condition.entry }
+    ensures strict { IsToldStrict (found_of given.now) result.strict }
+    ensures bounds { AreToldBounds (found_of given.now) result.bounds }
+{
+    Options {
+        format: format_of(given),
+        condition,
+        strict: is_strict(given),
+        bounds: bounds_of(given),
+    }
+}
+
 /// The value of the argument with this name, empty if there is none.
 fn path_at<'a>(given: &ArgMatches<'a>, name: &str) -> &'a str
     ensures { result.now ≡ text_at (first_value (found_of given.now) name.now) }
@@ -114,9 +144,16 @@ fn format_named(word: &str) -> Format
     }
 }
 
+/// Whether the words ask for a strict command.
+fn is_strict(given: &ArgMatches<'_>) -> bool
+    ensures { IsToldStrict (found_of given.now) result }
+{
+    given.get_flag("strict")
+}
+
 /// The bounds that the words name, of which those left out are the greatest numbers; `None` if they name
 /// none.
-pub fn bounds_of(given: &ArgMatches<'_>) -> Option<Bounds>
+fn bounds_of(given: &ArgMatches<'_>) -> Option<Bounds>
     ensures { AreToldBounds (found_of given.now) result }
 {
     let nodes = number_of(given, "nodes");
@@ -138,6 +175,23 @@ fn bounds_from(nodes: Option<u64>, clauses: Option<u64>, cases: Option<u64>) -> 
         cases: cases.unwrap_or(u64::MAX),
     };
     Some(bounds)
+}
+
+/// The condition that the words assume, or `None` if they assume none.
+///
+/// # Errors
+///
+/// That of `reqs_assuming::read_condition` for a text that is no marker, or when memory runs out.
+pub fn condition_of(
+    alloc: Global,
+    given: &ArgMatches<'_>,
+) -> Result<Option<MarkerFormula>, Pep508Error<VerbatimUrl>>
+    ensures { IsToldCondition (first_value (found_of given.now) (codes "assume")) result }
+{
+    match given.get_str("assume") {
+        Some(text) => Ok(Some(read_condition(alloc, text)?)),
+        None => Ok(None),
+    }
 }
 
 /// The limit that the words name, or the default.
@@ -189,6 +243,7 @@ fn check_command<'a>(alloc: Global) -> Result<Command<'a>, AllocError> {
     let check = Command::new(alloc, "check").about(
         "Prints the greatest candidate of each package that the lines ask for",
     );
+    let check = with_strict(alloc, check, "End with status 4 where a row is none")?;
     let check = with_format(alloc, check)?;
     with_inputs(
         alloc,
@@ -205,6 +260,7 @@ fn matrix_command<'a>(alloc: Global) -> Result<Command<'a>, AllocError> {
     let matrix = with_limit(alloc, matrix)?;
     let matrix = with_cases(alloc, matrix)?;
     let matrix = with_nodes(alloc, matrix)?;
+    let matrix = with_strict(alloc, matrix, "End with status 4 where a row is none")?;
     let matrix = with_format(alloc, matrix)?;
     with_inputs(
         alloc,
@@ -222,6 +278,7 @@ fn same_command<'a>(alloc: Global) -> Result<Command<'a>, AllocError> {
     let same = with_cases(alloc, same)?;
     let same = with_nodes(alloc, same)?;
     let same = with_clauses(alloc, same)?;
+    let same = with_assume(alloc, same)?;
     with_format(alloc, same)?
         .arg(input(
             alloc,
@@ -240,6 +297,7 @@ fn covers_command<'a>(alloc: Global) -> Result<Command<'a>, AllocError> {
     let covers = with_cases(alloc, covers)?;
     let covers = with_nodes(alloc, covers)?;
     let covers = with_clauses(alloc, covers)?;
+    let covers = with_assume(alloc, covers)?;
     with_format(alloc, covers)?
         .arg(input(
             alloc,
@@ -261,6 +319,12 @@ fn conflicts_command<'a>(alloc: Global) -> Result<Command<'a>, AllocError> {
     let conflicts = with_limit(alloc, conflicts)?;
     let conflicts = with_cases(alloc, conflicts)?;
     let conflicts = with_nodes(alloc, conflicts)?;
+    let conflicts = with_assume(alloc, conflicts)?;
+    let conflicts = with_strict(
+        alloc,
+        conflicts,
+        "End with status 4 where there is a conflict",
+    )?;
     with_format(alloc, conflicts)?.arg(list_argument(alloc))
 }
 
@@ -303,6 +367,30 @@ fn with_clauses<'a>(alloc: Global, command: Command<'a>) -> Result<Command<'a>, 
         "clauses",
         "The most clauses that a printed marker may have; without this no bound",
     ))
+}
+
+/// A command with an option for an assumption.
+fn with_assume<'a>(alloc: Global, command: Command<'a>) -> Result<Command<'a>, AllocError> {
+    command.arg(
+        Arg::new(alloc, "assume")
+            .long("assume")
+            .value_name("MARKER")
+            .help("Only environments and extras count for which this marker holds"),
+    )
+}
+
+/// A command with an option that makes it strict.
+fn with_strict<'a>(
+    alloc: Global,
+    command: Command<'a>,
+    help: &'a str,
+) -> Result<Command<'a>, AllocError> {
+    command.arg(
+        Arg::new(alloc, "strict")
+            .long("strict")
+            .help(help)
+            .action(ArgAction::SetTrue),
+    )
 }
 
 /// A command with an option for a format.

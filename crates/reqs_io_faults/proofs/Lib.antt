@@ -4,3 +4,4 @@ pub mod EachEnvironment
 pub mod Reading
 pub mod Steps
 pub mod Unbounded
+pub mod InOtherWords

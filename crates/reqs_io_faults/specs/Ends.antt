@@ -1,5 +1,6 @@
 -- How a command ends, whatever its inputs and its answers are.
-use Rattle.std.specs.Prelude.{◌≡◌, ◌<◌, ℕ, List, [], length, take, get_or, Option, Result, Ok, Err}
+use Rattle.std.specs.Prelude.{◌≡◌, ◌<◌, ℕ, Bool, true, false, List, [], length, take, get_or, Option}
+use Rattle.std.specs.Prelude.{Result, Ok, Err}
 use Rattle.std.specs.List.{AllByRecursion, AllZip}
 use Rattle.reqs_io.specs.Front.{AreAsTold, WritesWhole, AppendsFront}
 use Rattle.reqs_io_faults.specs.declared.fault.Input.{Input}
@@ -7,6 +8,7 @@ use Rattle.reqs_io_faults.specs.declared.fault.Input.TheVariants.{First, Second,
 use Rattle.reqs_io_faults.specs.declared.fault.RunFault.{RunFault}
 use Rattle.reqs_io_faults.specs.declared.fault.RunFault.TheVariants.{Read, Write, Memory, TooLong}
 use Rattle.reqs_io_faults.specs.declared.fault.Status.{Status}
+use Rattle.reqs_io_faults.specs.declared.fault.Status.TheVariants.{Answered, Unsatisfied}
 use Rattle.reqs_io_faults.specs.Inputs.{IsWithin, input_limit}
 
 -- the place of an input on the command line, from 0
@@ -18,6 +20,11 @@ place_of Third = 2
 -- what belongs to an input, as its bytes or its path, in the order of the command line
 abbrev pub of_input : List (List ℕ) → Input → List ℕ
 of_input all input = get_or all (place_of input) []
+
+-- the status after an answer, by whether a strict command finds in it what can't be satisfied
+abbrev pub status_of_answer : Bool → Status
+status_of_answer true = Unsatisfied
+status_of_answer false = Answered
 
 -- inputs are within their limit
 abbrev pub AreWithin : List (List ℕ) → Type 0

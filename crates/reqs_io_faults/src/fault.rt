@@ -9,7 +9,7 @@
 ghost use Rattle.std.specs.Prelude.{◌≡◌, map, string_bytes, IfOk, IfSome};
 ghost use Rattle.std.specs.Io.{StartsWith};
 ghost use Rattle.pep508_environment.specs.Environment.{member_name};
-ghost use Rattle.reqs_io_faults.specs.Ends.{place_of, of_input};
+ghost use Rattle.reqs_io_faults.specs.Ends.{place_of, of_input, status_of_answer};
 ghost use Rattle.reqs_io_faults.specs.Faults.{status_of, unbounded, IsOfEnvironment};
 ghost use Rattle.reqs_io_faults.specs.Faults.{of_reading, of_requirements, of_environment, of_candidates};
 ghost use Rattle.reqs_io_faults.specs.FaultText.{shape_text, refused_text, input_text, line_text};
@@ -67,17 +67,33 @@ pub enum Status {
     Answered,
     /// Two lists that were compared require different things.
     Different,
+    /// A strict command answered that something can't be satisfied: a row is `none`, or lines contradict each
+    /// other.
+    Unsatisfied,
 }
 
 impl Status {
-    /// The exit status: 0 or 1.
+    /// The exit status: 0, 1 or 4.
     pub fn code(self) -> u8
         ensures answered { self ≡ Status.Answered → result ≡ 0 }
         ensures different { self ≡ Status.Different → result ≡ 1 }
+        ensures unsatisfied { self ≡ Status.Unsatisfied → result ≡ 4 }
     {
         match self {
             Status::Answered => 0,
             Status::Different => 1,
+            Status::Unsatisfied => 4,
+        }
+    }
+
+    /// The status after an answer of a command that looks for what can't be satisfied, if it is strict.
+    pub fn of_answer(has_unsatisfied: bool) -> Status
+        ensures { result ≡ status_of_answer has_unsatisfied }
+    {
+        if has_unsatisfied {
+            Status::Unsatisfied
+        } else {
+            Status::Answered
         }
     }
 }

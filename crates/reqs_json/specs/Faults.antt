@@ -4,6 +4,9 @@ use Rattle.std.specs.Fmt.{decimal}
 use Rattle.serde_json.specs.Data.{Data, string, object, no_members, member}
 use Rattle.pep508_environment.specs.Environment.{member_name}
 use Rattle.pep508_url.specs.UrlFaults.{url_error_text}
+use Rattle.pep508_url.specs.UrlTexts.{Verbatim}
+use Rattle.pep508_url.specs.declared.url_error.VerbatimUrlError.{VerbatimUrlError}
+use Rattle.pep508_error.specs.declared.error.Pep508Error.{Pep508Error}
 use Rattle.pep508_error.specs.Errors.{error_text}
 use Rattle.reqtable_candidates.specs.Errors.{cause_text}
 use Rattle.reqs_io_faults.specs.declared.fault.Input.{Input}
@@ -200,3 +203,11 @@ IsFaultLine said fault text =
 -- the object for a command line whose words are valid and which is invalid otherwise, with this message
 abbrev pub usage_value : List ℕ → Data
 usage_value message = error_value (codes "command-line") message None nowhere
+
+-- the text is the object, as a line, of an assumption that is no marker; nothing is claimed of a message of
+-- the crate `url`
+abbrev pub IsAssumptionLine : Pep508Error Verbatim VerbatimUrlError → List ℕ → Type 0
+IsAssumptionLine error text =
+    (message : List ℕ) × IfSome (error_text url_error_text error) (λ wanted. message ≡ wanted)
+    × (text ≡ line_of (error_value (codes "assumption") message None
+    (record { line = Some 1; start = Some error.excerpt.start; len = Some error.excerpt.len })))

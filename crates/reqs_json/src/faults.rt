@@ -12,9 +12,12 @@ ghost use Rattle.reqs_json.specs.Lines.{number_of, value_or_null, line_of};
 ghost use Rattle.reqs_json.specs.Faults.{kind_of, input_in, line_in, start_in, length_in, place_in};
 ghost use Rattle.reqs_json.specs.Faults.{nowhere, usage_value, excess_kind, excess_input, excess_line};
 ghost use Rattle.reqs_json.specs.Faults.{error_members, error_value, fault_value, IsFaultLine};
+ghost use Rattle.reqs_json.specs.Faults.{IsAssumptionLine};
 
 use crate::json_lines::line_of;
 use crate::messages::message_of;
+use pep508_error::Pep508Error;
+use pep508_url::VerbatimUrl;
 use reqs_io_faults::{Excess, Input, RunFault};
 use serde_json::{Value, json};
 use std::alloc::{AllocError, Global};
@@ -66,6 +69,26 @@ pub fn usage_line(alloc: Global, message: &str) -> Result<String, AllocError>
         len: None,
     };
     error_line(alloc, "command-line", message, None, place)
+}
+
+/// The object, on a line, for an assumption of the command line that is no marker, which has one line.
+///
+/// # Errors
+///
+/// `AllocError` when memory runs out.
+pub fn assumption_line(
+    alloc: Global,
+    error: &Pep508Error<VerbatimUrl>,
+) -> Result<String, AllocError>
+    ensures { IfOk result (λ text. IsAssumptionLine error.now (string_bytes text)) }
+{
+    let message = error.to_string(alloc)?;
+    let place = Place {
+        line: Some(1),
+        start: Some(error.start()),
+        len: Some(error.len()),
+    };
+    error_line(alloc, "assumption", message.as_str(), None, place)
 }
 
 /// The object, on a line, for running out of memory; needs no memory.

@@ -13,6 +13,6 @@ pub mod laws;
 mod messages;
 
 pub use answers::{answer_text, row_text};
-pub use faults::{fault_line, memory_line, usage_line};
+pub use faults::{assumption_line, fault_line, memory_line, usage_line};
 pub use format::Format;
 pub use json_lines::{line_of, lines_value, numbers_value};

@@ -4,6 +4,7 @@ pub mod OneConflicts
 pub mod OneDifference
 pub mod Plain
 pub mod RisingSets
+pub mod Strict
 pub mod Told
 pub mod ToldCovers
 pub mod Trees

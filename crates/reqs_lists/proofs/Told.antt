@@ -1,5 +1,5 @@
 -- How a command ends that refuses its lists.
-use Rattle.std.proofs.Common.{◌≡◌, ◌⊎◌, inl, inr, ℕ, List, Option, Some, Result, Ok, Err, sym, subst}
+use Rattle.std.proofs.Common.{◌≡◌, ◌⊎◌, inl, inr, ℕ, Bool, List, Option, Some, Result, Ok, Err, sym, subst}
 use Rattle.std.specs.List.{AllZip}
 use Rattle.pep508_url.specs.Vars.{Variables}
 use Rattle.reqtable_candidates.specs.TextLines.{text_lines}
@@ -27,7 +27,7 @@ use Rattle.reqs_lists.specs.Comparison.{CantBeWithin, SameAnswersAs, SameAnswers
 use Rattle.reqs_lists.specs.Comparison.{SameRefusesWithin, SamePasses}
 use Rattle.reqs_lists.specs.Contradictions.{HasTooManyWithin, ConflictsAnswerAs, ConflictsRefuse, ConflictsPass}
 use Rattle.reqs_lists.specs.Contradictions.{IsConflictsAnswer, IsFewConflicts, HasTooManyCases}
-use Rattle.reqs_lists.specs.Contradictions.{ConflictsAnswerWithin, ConflictsRefuseWithin}
+use Rattle.reqs_lists.specs.Contradictions.{ConflictsAnswerBy, ConflictsAnswerWithin, ConflictsRefuseWithin}
 use Rattle.reqs_lists.specs.Lists.{IsOfLists, Refused, RefusesLists, PassesInFirst, PassesInEither, one_list, two_lists}
 use Rattle.reqs_lists.specs.Normal.{HasNoNormal, NormalAnswersAs, NormalRefuses}
 use Rattle.reqs_lists.specs.Normal.{HasFaultyLine, NormalAnswersWithin, NormalRefusesWithin, NormalPasses}
@@ -130,18 +130,18 @@ module _ {W : Type 0} (contents : W → Option (List ℕ)) (old new : W) (told :
         (RefusesOr (NormalPasses bounds nodes vars) (NormalRefusesWithin bounds vars))
         (normal_excess bounds nodes vars inputs fault h) (inr h)
 
-    pub conflicts_within_refused : (limit : ℕ)
+    pub conflicts_by_refused : (strict : Bool) (limit : ℕ)
         → ConflictsRefuseWithin bounds limit vars inputs fault ⊎ ConflictsPass bounds nodes limit vars inputs fault
-        → Runs (ConflictsAnswerWithin bounds nodes format limit vars)
+        → Runs (ConflictsAnswerBy strict bounds nodes format limit vars)
         (RefusesOr (ConflictsPass bounds nodes limit vars) (ConflictsRefuseWithin bounds limit vars)) told contents old new
         (Err fault)
-    conflicts_within_refused limit (inl h) =
-        refused (ConflictsAnswerWithin bounds nodes format limit vars)
+    conflicts_by_refused strict limit (inl h) =
+        refused (ConflictsAnswerBy strict bounds nodes format limit vars)
         (RefusesOr (ConflictsPass bounds nodes limit vars) (ConflictsRefuseWithin bounds limit vars))
         (may_be_said (IsOfLists vars inputs) (HasTooManyWithin limit bounds.cases) (one_list vars inputs) fault
         (of_too_many vars inputs fault limit bounds.cases) h) (inl h)
-    conflicts_within_refused limit (inr h) =
-        passed (ConflictsAnswerWithin bounds nodes format limit vars)
+    conflicts_by_refused strict limit (inr h) =
+        passed (ConflictsAnswerBy strict bounds nodes format limit vars)
         (RefusesOr (ConflictsPass bounds nodes limit vars) (ConflictsRefuseWithin bounds limit vars))
         (conflicts_excess bounds nodes limit vars inputs fault h) (inr h)
 

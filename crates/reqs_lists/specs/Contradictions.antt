@@ -22,7 +22,7 @@ use Rattle.reqs_io_faults.specs.declared.fault.RunFault.{RunFault}
 use Rattle.reqs_io_faults.specs.declared.fault.RunFault.TheVariants as run
 use Rattle.reqs_io_faults.specs.declared.fault.Status.{Status}
 use Rattle.reqs_io_faults.specs.declared.fault.Status.TheVariants as status
-use Rattle.reqs_io_faults.specs.Ends.{Runs}
+use Rattle.reqs_io_faults.specs.Ends.{Runs, status_of_answer}
 use Rattle.reqs_io_faults.specs.declared.bounds.Bounds.{Bounds}
 use Rattle.reqs_io_faults.specs.declared.bounds.Excess.TheVariants as excess
 use Rattle.reqs_io_faults.specs.Within.{RefusesOr, Outgrows}
@@ -144,5 +144,33 @@ abbrev pub RunsConflictsWithin : {W : Type 0} → Bounds → List NodeRecord →
     → Option (List ℕ) → (W → Option (List ℕ)) → W → W → Result Status RunFault → Type 0
 RunsConflictsWithin bounds nodes format limit vars requirements contents old new result =
     Runs (ConflictsAnswerWithin bounds nodes format limit vars)
+    (RefusesOr (ConflictsPass bounds nodes limit vars) (ConflictsRefuseWithin bounds limit vars))
+    (requirements ∷ []) contents old new result
+
+-- ---- strictly
+
+-- the status after these conflicts: that of a strict command says whether there are any
+abbrev pub conflicts_status : Bool → List ConflictRecord → Status
+conflicts_status strict [] = status.Answered
+conflicts_status strict (first ∷ others) = status_of_answer strict
+
+-- the text of all conflicts, and the status after them
+abbrev pub IsConflictsBy : Bool → Format → ℕ → ℕ → List LineRecord → Status → List ℕ → Type 0
+IsConflictsBy strict format limit most lines ended text =
+    (found : List ConflictRecord) × (ended ≡ conflicts_status strict found)
+    × FindsWithin (λ all. all) limit most lines (Ok found) × (text ≡ conflicts_in format found)
+
+-- the answer for the texts of lists, with at most so many nodes
+abbrev pub ConflictsAnswerBy : Bool → Bounds → List NodeRecord → Format → ℕ → Variables → List (List ℕ)
+    → Status → List ℕ → Type 0
+ConflictsAnswerBy strict bounds nodes format limit vars inputs ended text =
+    IsRead (one_list vars inputs) (λ lines. IsConflictsBy strict format limit bounds.cases lines ended text)
+    × (length nodes ≤ bounds.nodes)
+
+-- `conflicts`, strict or not, ends with this result where the bounds are these, with these nodes afterwards
+abbrev pub RunsConflictsBy : {W : Type 0} → Bool → Bounds → List NodeRecord → Format → ℕ → Variables
+    → Option (List ℕ) → (W → Option (List ℕ)) → W → W → Result Status RunFault → Type 0
+RunsConflictsBy strict bounds nodes format limit vars requirements contents old new result =
+    Runs (ConflictsAnswerBy strict bounds nodes format limit vars)
     (RefusesOr (ConflictsPass bounds nodes limit vars) (ConflictsRefuseWithin bounds limit vars))
     (requirements ∷ []) contents old new result

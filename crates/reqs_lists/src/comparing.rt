@@ -156,8 +156,12 @@ fn same_answer(
     same_of(alloc, &left, &right, interner, limit, format, bounds)
 }
 
-/// The answer on two parsed lists.
-fn same_of(
+/// The answer on two parsed lists, which were read with this interner.
+///
+/// # Errors
+///
+/// Those of `same_within` for lists that are valid.
+pub fn same_of(
     alloc: Global,
     left: &Requirements,
     right: &Requirements,

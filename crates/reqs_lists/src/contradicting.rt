@@ -1,6 +1,6 @@
 //! `conflicts`: the lines of a list that contradict each other.
 
-ghost use Rattle.std.specs.Prelude.{◌≡◌, ◌≢◌, ◌≤◌, ◌∷◌, [], List, length, IfErr};
+ghost use Rattle.std.specs.Prelude.{◌≡◌, ◌≢◌, ◌≤◌, ◌∷◌, [], List, true, length, map, IfErr};
 ghost use Rattle.std.specs.List.{AllZip};
 ghost use Rattle.pep508_url.specs.Vars.{Variables};
 ghost use Rattle.reqtable_requirements.specs.Asks.{AreOfNodes};
@@ -10,7 +10,9 @@ ghost use Rattle.reqs_io_faults.specs.declared.fault.Input.TheVariants.{First};
 ghost use Rattle.reqs_io_faults.specs.Inputs.{lines_from};
 ghost use Rattle.reqs_io_faults.specs.Within.{Bounded};
 ghost use Rattle.reqs_lists.specs.Lists.{IsOfLists, AnswersLists, Gives};
-ghost use Rattle.reqs_lists.specs.Contradictions.{RunsConflicts, RunsConflictsWithin, IsFewConflicts};
+ghost use Rattle.reqtable_conflicts.specs.Contradictions.{conflict_record};
+ghost use Rattle.reqs_lists.specs.Contradictions.{RunsConflicts, RunsConflictsWithin, RunsConflictsBy};
+ghost use Rattle.reqs_lists.specs.Contradictions.{IsConflictsBy, conflicts_status};
 ghost use Rattle.reqs_lists.specs.Contradictions.{FindsOrRefuses, HasTooManyWithin};
 ghost use Rattle.reqs_lists.specs.Contradictions.{OutgrowsOrCases, ConflictsPass};
 
@@ -27,6 +29,15 @@ use reqtable_requirements::Requirements;
 use reqtable_table::TableError;
 use std::alloc::Global;
 use std::io::{Read, Write};
+
+/// The options of a run.
+#[derive(Clone, Copy)]
+pub struct Request {
+    pub limit: u64,
+    pub format: Format,
+    pub bounds: Bounds,
+    pub strict: bool,
+}
 
 /// Reads a list of requirements, and writes a line for each conflict that `reqtable_conflicts::conflicts`
 /// finds: the package, and the numbers of the lines that contradict each other when just they apply, as
@@ -107,16 +118,62 @@ pub fn conflicts_within<R: Read, W: Write>(
     // A refused command has written nothing.
     ensures unwritten { IfErr result (λ fault. fault ≢ RunFault.Write → output.new ≡ output.old) }
 {
-    let mut requirements = read_input(alloc, Input::First, requirements)?;
-    let answer = conflicts_answer(
-        alloc,
-        &mut requirements,
-        vars,
+    let request = Request {
         limit,
         format,
         bounds,
-        interner,
-    )?;
+        strict: false,
+    };
+    conflicts_by(alloc, requirements, vars, request, interner, output)
+}
+
+/// Writes the conflicts of a list as `conflicts_within` does, and ends with `Status::Unsatisfied` if there
+/// are any.
+///
+/// # Errors
+///
+/// Those of `conflicts_within`.
+pub fn conflicts_strict<R: Read, W: Write>(
+    alloc: Global,
+    requirements: &mut R,
+    vars: &Vars,
+    limit: u64,
+    format: Format,
+    bounds: Bounds,
+    interner: &mut Interner,
+    output: &mut W,
+) -> Result<Status, RunFault>
+    requires { length interner.old.nodes ≤ bounds.nodes }
+    ensures runs { RunsConflictsBy true bounds interner.new.nodes format limit vars.now
+        (R.remaining requirements.old) W.contents output.old output.new result }
+    // A refused command has written nothing.
+    ensures unwritten { IfErr result (λ fault. fault ≢ RunFault.Write → output.new ≡ output.old) }
+{
+    let request = Request {
+        limit,
+        format,
+        bounds,
+        strict: true,
+    };
+    conflicts_by(alloc, requirements, vars, request, interner, output)
+}
+
+/// Writes the conflicts of a list.
+fn conflicts_by<R: Read, W: Write>(
+    alloc: Global,
+    requirements: &mut R,
+    vars: &Vars,
+    request: Request,
+    interner: &mut Interner,
+    output: &mut W,
+) -> Result<Status, RunFault>
+    requires { length interner.old.nodes ≤ request.bounds.nodes }
+    ensures runs { RunsConflictsBy request.strict request.bounds interner.new.nodes request.format
+        request.limit vars.now (R.remaining requirements.old) W.contents output.old output.new result }
+    ensures unwritten { IfErr result (λ fault. fault ≢ RunFault.Write → output.new ≡ output.old) }
+{
+    let mut requirements = read_input(alloc, Input::First, requirements)?;
+    let answer = conflicts_answer(alloc, &mut requirements, vars, request, interner)?;
     write_answer(output, answer.text.as_str(), answer.status)
 }
 
@@ -125,45 +182,59 @@ fn conflicts_answer(
     alloc: Global,
     requirements: &mut Vec<u8>,
     vars: &Vars,
-    limit: u64,
-    format: Format,
-    bounds: Bounds,
+    request: Request,
     interner: &mut Interner,
 ) -> Result<Answer, RunFault>
-    requires { length interner.old.nodes ≤ bounds.nodes }
+    requires { length interner.old.nodes ≤ request.bounds.nodes }
     ensures { Bounded (AnswersLists (IsOfLists vars.now (requirements.old.items ∷ []))
-        (IsFewConflicts format limit bounds.cases) (HasTooManyWithin limit bounds.cases)
+        (IsConflictsBy request.strict request.format request.limit request.bounds.cases)
+        (HasTooManyWithin request.limit request.bounds.cases)
         (lines_from vars.now First requirements.old.items))
-        (length interner.new.nodes ≤ bounds.nodes)
-        (ConflictsPass bounds interner.new.nodes limit vars.now (requirements.old.items ∷ [])) result }
+        (length interner.new.nodes ≤ request.bounds.nodes)
+        (ConflictsPass request.bounds interner.new.nodes request.limit vars.now
+        (requirements.old.items ∷ [])) result }
 {
-    let most = bounds.nodes;
+    let most = request.bounds.nodes;
     let first = Input::First;
     let requirements = requirements_within(alloc, first, requirements, interner, vars, most)?;
-    conflicts_of(alloc, &requirements, interner, limit, format, bounds)
+    conflicts_of(alloc, &requirements, interner, request)
 }
 
-/// The answer on a parsed list.
-fn conflicts_of(
+/// The answer on a parsed list, which was read with this interner.
+///
+/// # Errors
+///
+/// Those of `conflicts_within` for a list that is valid.
+pub fn conflicts_of(
     alloc: Global,
     requirements: &Requirements,
     interner: &mut Interner,
-    limit: u64,
-    format: Format,
-    bounds: Bounds,
+    request: Request,
 ) -> Result<Answer, RunFault>
     requires { AreOfNodes interner.old.nodes requirements.now }
     ensures { (vars : Variables) (said : List LineRecord) →
         AllZip (StandsFor vars interner.old.nodes) requirements.now said →
-        Bounded (Gives (IsFewConflicts format limit bounds.cases) (HasTooManyWithin limit bounds.cases) said)
-        (length interner.new.nodes ≤ bounds.nodes)
-        (OutgrowsOrCases bounds interner.new.nodes limit said) result }
+        Bounded (Gives
+        (IsConflictsBy request.strict request.format request.limit request.bounds.cases)
+        (HasTooManyWithin request.limit request.bounds.cases) said)
+        (length interner.new.nodes ≤ request.bounds.nodes)
+        (OutgrowsOrCases request.bounds interner.new.nodes request.limit said) result }
 {
-    let conflicts = found_within(alloc, requirements, interner, limit, bounds)?;
-    Ok(Answer {
-        status: Status::Answered,
-        text: conflicts_in(alloc, format, &conflicts)?,
-    })
+    let limit = request.limit;
+    let conflicts = found_within(alloc, requirements, interner, limit, request.bounds)?;
+    let status = conflicts_status(request.strict, &conflicts);
+    let text = conflicts_in(alloc, request.format, &conflicts)?;
+    Ok(Answer { status, text })
+}
+
+/// The status after these conflicts.
+fn conflicts_status(strict: bool, conflicts: &[Conflict]) -> Status
+    ensures { result ≡ conflicts_status strict (map conflict_record conflicts.now) }
+{
+    match conflicts.split_first() {
+        Some(_) => Status::of_answer(strict),
+        None => Status::Answered,
+    }
 }
 
 /// The conflicts of a parsed list.

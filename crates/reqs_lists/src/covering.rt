@@ -143,8 +143,12 @@ fn covers_answer(
     covers_of(alloc, &left, &right, interner, limit, format, bounds)
 }
 
-/// The answer on a parsed lock and parsed requirements.
-fn covers_of(
+/// The answer on a parsed lock and parsed requirements, which were read with this interner.
+///
+/// # Errors
+///
+/// Those of `covers_within` for lists that are valid.
+pub fn covers_of(
     alloc: Global,
     left: &Requirements,
     right: &Requirements,

@@ -13,10 +13,11 @@ mod conflict_lines;
 mod contradicting;
 mod covering;
 pub mod laws;
+pub mod lent;
 mod normalizing;
 mod uncovered_lines;
 
 pub use comparing::{same, same_within};
-pub use contradicting::{conflicts, conflicts_within};
+pub use contradicting::{conflicts, conflicts_strict, conflicts_within};
 pub use covering::{covers, covers_within};
 pub use normalizing::{normal, normal_within};

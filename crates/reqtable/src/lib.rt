@@ -66,6 +66,9 @@
 //! }
 //! ```
 //!
+//! `crates/reqtable_tests/src/again.rt` has this loop, and `crates/reqtable_list_tests/src/` callers on
+//! lists, each with a proved contract.
+//!
 //! The crates below hold the code; this one re-exports what they offer, and the requirements of `pep508_rs`.
 
 pub mod laws;

@@ -14,7 +14,7 @@ use Rattle.pep508_requirement_text.specs.FrontReading.{Front}
 use Rattle.reqtable_candidates.specs.declared.candidates.Candidate.{Candidate}
 use Rattle.reqtable_answer.specs.declared.choosing.Numbered.{Numbered}
 use Rattle.reqtable_answer.specs.declared.grouping.Group.{Group}
-use Rattle.reqtable_answer.specs.declared.lent.Ask.{Ask}
+use Rattle.reqtable_answer.specs.declared.ask.Ask.{Ask}
 use Rattle.reqtable_answer.specs.Asks.{is_of, is_candidate}
 use Rattle.reqtable_answer.specs.Answer.{Admits, RowRecord, IsRowOf, IsRow}
 use Rattle.reqtable_answer.specs.declared.answer.Row.{Row}

@@ -6,7 +6,7 @@ use Rattle.pep440_specifier.specs.Matching.{SpecifierRecord}
 use Rattle.reqtable_range.specs.declared.one.OneRange.{OneRange}
 use Rattle.reqtable_range.specs.One.{FindsOne}
 use Rattle.reqtable_range.specs.Together.{members_of, all_take}
-use Rattle.reqtable_answer.specs.declared.lent.Ask.{Ask}
+use Rattle.reqtable_answer.specs.declared.ask.Ask.{Ask}
 use Rattle.reqtable_answer.specs.Asks.{ask_takes}
 use Rattle.reqtable_answer.specs.Ranged.{TellsTaken}
 use Rattle.reqtable_answer.specs.Says.{ask_seen}

@@ -8,7 +8,7 @@ use Rattle.pep440_version.specs.OrderLaws.{version_cmp_total}
 use Rattle.pep508_requirement_text.specs.FrontReading.{Front}
 use Rattle.reqtable_candidates.specs.declared.candidates.Candidate.{Candidate}
 use Rattle.reqtable_answer.specs.declared.answer.Outcome.TheVariants.{Direct}
-use Rattle.reqtable_answer.specs.declared.lent.Ask.{Ask}
+use Rattle.reqtable_answer.specs.declared.ask.Ask.{Ask}
 use Rattle.reqtable_answer.specs.Asks.{has_url, has_prerelease, ask_takes, may_be_taken}
 use Rattle.reqtable_answer.specs.Answer.{Admits, first_greatest, by_version, chosen, outcome_of}
 use Rattle.reqtable_answer.specs.Groups.{passes_by}

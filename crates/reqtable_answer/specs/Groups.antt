@@ -12,7 +12,7 @@ use Rattle.pep508_requirement_text.specs.FrontReading.{Front}
 use Rattle.reqtable_candidates.specs.declared.candidates.Candidate.{Candidate}
 use Rattle.reqtable_answer.specs.declared.choosing.Numbered.{Numbered}
 use Rattle.reqtable_answer.specs.declared.grouping.Group.{Group}
-use Rattle.reqtable_answer.specs.declared.lent.Ask.{Ask}
+use Rattle.reqtable_answer.specs.declared.ask.Ask.{Ask}
 use Rattle.reqtable_answer.specs.Admission.{Admits}
 use Rattle.reqtable_answer.specs.Asks.{ask_takes}
 use Rattle.reqtable_answer.specs.Says.{ask_seen, asks_seen}

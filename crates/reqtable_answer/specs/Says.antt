@@ -10,9 +10,9 @@ use Rattle.pep508_requirement.specs.declared.marked_requirement.MarkedRequiremen
 use Rattle.pep508_requirement.specs.declared.requirement.Requirement.{Requirement}
 use Rattle.pep508_requirement.specs.declared.version_or_url.VersionOrUrl.{VersionOrUrl}
 use Rattle.pep508_requirement.specs.declared.version_or_url.VersionOrUrl.TheVariants as asked
-use Rattle.reqtable_answer.specs.declared.lent.Ask.{Ask}
-use Rattle.reqtable_answer.specs.declared.lent.AskSource.{AskSource}
-use Rattle.reqtable_answer.specs.declared.lent.AskSource.TheVariants as lent
+use Rattle.reqtable_answer.specs.declared.ask.Ask.{Ask}
+use Rattle.reqtable_answer.specs.declared.ask.AskSource.{AskSource}
+use Rattle.reqtable_answer.specs.declared.ask.AskSource.TheVariants as lent
 
 -- ---- records of values
 

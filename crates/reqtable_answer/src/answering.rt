@@ -17,10 +17,10 @@ ghost use Rattle.reqtable_answer.specs.Says.{SayAll, asks_seen};
 
 use crate::admission::Admission;
 use crate::answer::{Answer, Row};
+use crate::ask::Ask;
 use crate::choosing::{Numbered, outcome};
 use crate::extras::extras_of;
 use crate::grouping::by_package;
-use crate::lent::Ask;
 use pep440_version::Version;
 use reqtable_candidates::Candidates;
 use std::alloc::{AllocError, Global};

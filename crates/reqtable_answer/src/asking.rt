@@ -8,7 +8,7 @@ ghost use Rattle.reqtable_answer.specs.Ranged.{TellsTaken};
 ghost use Rattle.reqtable_answer.specs.Says.{ask_seen};
 
 use crate::admission::Admission;
-use crate::lent::{Ask, AskSource};
+use crate::ask::{Ask, AskSource};
 use pep440_version::Version;
 use reqtable_range::OneRange;
 use std::alloc::{AllocError, Global};

@@ -14,8 +14,8 @@ ghost use Rattle.reqtable_answer.specs.Says.{asks_seen};
 
 use crate::admission::Admission;
 use crate::answer::Outcome;
+use crate::ask::Ask;
 use crate::asking::{is_direct, may_be_taken, names_prerelease};
-use crate::lent::Ask;
 use crate::ranged::range_of;
 use pep440_version::Version;
 use reqtable_candidates::Candidate;

@@ -9,7 +9,7 @@ ghost use Rattle.std.specs.Str.{bytes_eq};
 ghost use Rattle.reqtable_answer.specs.Asks.{has_extra};
 ghost use Rattle.reqtable_answer.specs.Says.{asks_seen};
 
-use crate::lent::Ask;
+use crate::ask::Ask;
 use pep508_name::ExtraName;
 use std::alloc::{AllocError, Global};
 

@@ -9,8 +9,8 @@ ghost use Rattle.reqtable_answer.specs.Asks.{is_of, is_candidate};
 ghost use Rattle.reqtable_answer.specs.Groups.{asks_for, has_group, candidates_for, numbered_seen};
 ghost use Rattle.reqtable_answer.specs.Says.{ask_seen, asks_seen};
 
+use crate::ask::Ask;
 use crate::choosing::Numbered;
-use crate::lent::Ask;
 use reqtable_candidates::Candidate;
 use std::alloc::{AllocError, Global};
 use std::collections::BTreeMap;

@@ -12,7 +12,7 @@ ghost use Rattle.reqtable_answer.specs.Asks.{ask_takes};
 ghost use Rattle.reqtable_answer.specs.Ranged.{TellsTaken};
 ghost use Rattle.reqtable_answer.specs.Says.{ask_seen};
 
-use crate::lent::{Ask, AskSource};
+use crate::ask::{Ask, AskSource};
 use pep440_specifier_list::VersionSpecifiers;
 use reqtable_range::{OneRange, one_range};
 use std::alloc::{AllocError, Global};

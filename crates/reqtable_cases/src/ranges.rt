@@ -1,12 +1,12 @@
 //! The version range that lines require together.
 
-ghost use Rattle.std.specs.Prelude.{◌≡◌, ◌&&◌, IfOk};
+ghost use Rattle.std.specs.Prelude.{◌≡◌, IfOk};
 ghost use Rattle.std.specs.List.{list_all};
 ghost use Rattle.reqtable_range.specs.Together.{lent};
-ghost use Rattle.reqtable_cases.specs.Usable.{agrees_with_range, is_ranged, IsRangeOfMembers};
+ghost use Rattle.reqtable_cases.specs.Usable.{is_ranged, IsRangeOfMembers};
 
 use pep440_range::agrees_beside_posts;
-use pep440_specifier::{Operator, VersionSpecifier};
+use pep440_specifier::VersionSpecifier;
 use pep440_version::Version;
 use reqtable_range::{has_range, shared_range};
 use std::alloc::{AllocError, Global};
@@ -51,14 +51,8 @@ fn are_ranged(alloc: Global, members: &[&VersionSpecifier]) -> Result<bool, Allo
 fn is_ranged(alloc: Global, member: &VersionSpecifier) -> Result<bool, AllocError>
     ensures { IfOk result (λ ranged. ranged ≡ is_ranged member.now) }
 {
-    if !agrees_with_range(member.operator(), member.version()) {
+    if !agrees_beside_posts(member.operator(), member.version()) {
         return Ok(false);
     }
     has_range(alloc, member)
-}
-
-fn agrees_with_range(operator: Operator, version: &Version) -> bool
-    ensures { result ≡ agrees_with_range operator version.now }
-{
-    agrees_beside_posts(operator, version)
 }

@@ -12,6 +12,7 @@ use Rattle.pep440_operator.specs.declared.operator.Operator.TheVariants.{Equal, 
 use Rattle.pep440_operator.specs.declared.operator.Operator.TheVariants.{NotEqualStar, TildeEqual}
 use Rattle.pep440_operator.specs.declared.operator.Operator.TheVariants.{LessThanEqual, GreaterThanEqual}
 use Rattle.pep440_specifier.specs.Matching.{SpecifierRecord}
+use Rattle.pep440_range.specs.Agreement.{agrees_beside_posts}
 use Rattle.pep440_range.specs.Ranges.{range_of}
 use Rattle.pep508_requirement_text.specs.FrontReading.{Front}
 use Rattle.reqtable_answer.specs.Asks.{specifiers_of, is_url, has_url, is_of}
@@ -20,7 +21,7 @@ use Rattle.reqtable_requirements.specs.LineReading.{LineRecord}
 use Rattle.reqtable_requirements.specs.Asks.{lines_of}
 use Rattle.pep508_cases.specs.Cases.{Marks}
 use Rattle.reqtable_cases.specs.Lines.{asked_by}
-use Rattle.reqtable_cases.specs.Usable.{members_asked, agrees_with_range, is_ranged, is_usable}
+use Rattle.reqtable_cases.specs.Usable.{members_asked, is_ranged, is_usable}
 use Rattle.reqtable_compare.specs.declared.sides.LineCause.{LineCause}
 use Rattle.reqtable_compare.specs.declared.sides.LineCause.TheVariants as causes
 use Rattle.reqtable_compare.specs.declared.sides.Side.{Side}
@@ -43,7 +44,7 @@ one_there None e = absurd (true≢false e)
 one_there (Some x) e = refl
 
 agrees : (operator : Operator) (version : VersionRecord) → is_exact operator ≡ false →
-    cond (is_bound operator) (is_some version.post) false ≡ false → agrees_with_range operator version ≡ true
+    cond (is_bound operator) (is_some version.post) false ≡ false → agrees_beside_posts operator version ≡ true
 agrees ExactEqual version e b = absurd (true≢false e)
 agrees LessThan version e b = none_there version.post b
 agrees GreaterThan version e b = none_there version.post b

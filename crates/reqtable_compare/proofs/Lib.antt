@@ -15,6 +15,7 @@ pub mod Trees
 pub mod Whole
 pub mod Answering
 pub mod Apart
+pub mod LikeCases
 pub mod Listed
 pub mod Covered
 pub mod Meant

@@ -8,6 +8,8 @@ use Rattle.pep508_tree.specs.Tree.{Tree}
 use Rattle.pep508_tree.specs.Meaning.{NodeRecord, IsTree}
 use Rattle.pep508_tree.specs.Disjoint.{AreDisjoint}
 use Rattle.reqtable_compare.specs.declared.pairing.Meeting.{Meeting}
+use Rattle.reqtable_compare.specs.declared.pairing.Standing.{Standing}
+use Rattle.reqtable_compare.specs.declared.pairing.Standing.TheVariants as standings
 use Rattle.reqtable_compare.specs.declared.sides.Relation.{Relation}
 use Rattle.reqtable_compare.specs.Summed.{SummaryRecord, Fit}
 
@@ -17,6 +19,10 @@ Passes relation nodes a b = Fit relation a b ⊎ AreDisjoint nodes a.tree b.tree
 
 abbrev pub PassesAll : Relation → List NodeRecord → List SummaryRecord → SummaryRecord → Type 0
 PassesAll relation nodes right a = AllByRecursion (Passes relation nodes a) right
+
+-- a case and each of the others require what the relation has
+abbrev pub FitsAll : Relation → List SummaryRecord → SummaryRecord → Type 0
+FitsAll relation right a = AllByRecursion (Fit relation a) right
 
 abbrev pub AreOfTrees : List NodeRecord → List SummaryRecord → Type 0
 AreOfTrees nodes summaries = AllByRecursion (λ s. IsTree nodes s.tree) summaries
@@ -60,9 +66,10 @@ pub record IsFirstOther (relation : Relation) (nodes : List NodeRecord) (one : S
   pub fails : Fails relation nodes one other
   pub is : tree ≡ other.tree
 
-abbrev pub FindsOther : Relation → List NodeRecord → SummaryRecord → List SummaryRecord → Option Tree → Type 0
-FindsOther relation nodes one right None = PassesAll relation nodes right one
-FindsOther relation nodes one right (Some tree) = IsFirstOther relation nodes one right tree
+abbrev pub FindsStanding : Relation → List NodeRecord → SummaryRecord → List SummaryRecord → Standing → Type 0
+FindsStanding relation nodes one right standings.Fits = FitsAll relation right one
+FindsStanding relation nodes one right standings.Passes = PassesAll relation nodes right one
+FindsStanding relation nodes one right (standings.Fails tree) = IsFirstOther relation nodes one right tree
 
 -- the trees of the first failing pair, by the left cases and then by the right ones
 pub record IsFirstPair (relation : Relation) (nodes : List NodeRecord) (left right : List SummaryRecord)

@@ -1,18 +1,19 @@
 //! The first pair of cases that hold together and don't require what a relation has.
 //!
 //! A case whose tree is also a case's on the other side, where both require what the relation has, needs no
-//! other comparison. If there are few others, each is compared with all cases on the other side. If there are
-//! many, one diagram of both sides' cases tells which pairs hold together, and only those are compared; but
-//! where very many do, all are compared, so that no long list is kept. A conjunction is made of the one pair
-//! that is reported.
+//! other comparison; nor does one that requires the same as an earlier case which fits all on the other side.
+//! If there are few others, each is compared with all cases on the other side. If there are many, one diagram
+//! of both sides' cases tells which pairs hold together, and only those are compared; but where very many do,
+//! all are compared, so that no long list is kept. A conjunction is made of the one pair that is reported.
 
-ghost use Rattle.std.specs.Prelude.{◌≡◌, map, List, IfOk, IfSome, IsTrue};
+ghost use Rattle.std.specs.Prelude.{◌≡◌, map, List, IfOk, IfSome, IsTrue, MatchOption};
 ghost use Rattle.std.specs.List.{AllByRecursion};
 ghost use Rattle.pep508_tree.specs.Meaning.{IsTree, NodeRecord};
 ghost use Rattle.pep508_cases.specs.Pairs.{AreMeeting};
 ghost use Rattle.reqtable_compare.specs.Seen.{summary_record};
-ghost use Rattle.reqtable_compare.specs.Pairs.{Decides, FindsOther, FindsTrees, AreOfTrees, AreApart};
-ghost use Rattle.reqtable_compare.specs.Pairs.{PassesAll, ArePartners, case_trees, ExtrasRise};
+ghost use Rattle.reqtable_compare.specs.Pairs.{Decides, FindsStanding, FindsTrees, AreOfTrees, AreApart};
+ghost use Rattle.reqtable_compare.specs.Pairs.{PassesAll, FitsAll, ArePartners, case_trees, ExtrasRise};
+ghost use Rattle.reqtable_compare.specs.Summed.{Alike};
 
 use crate::sides::Relation;
 use crate::summary::Summary;
@@ -39,6 +40,16 @@ type Places = HashMap<MarkerTree, usize>;
 pub(crate) struct Meeting {
     pub(crate) one: MarkerTree,
     pub(crate) other: MarkerTree,
+}
+
+/// How a case stands to all cases on the other side.
+enum Standing {
+    /// It and each of them require what the relation has.
+    Fits,
+    /// It and each of those with which it holds together require what the relation has.
+    Passes,
+    /// The tree of the first with which it holds together, where both don't.
+    Fails(MarkerTree),
 }
 
 /// The trees of the first pair of cases that hold together and don't require what the relation has, by the
@@ -85,7 +96,8 @@ fn places_of(alloc: Global, right: &[Summary]) -> Result<Places, AllocError> {
     Ok(places)
 }
 
-/// Whether the cases that have no partner need many comparisons.
+/// Whether many comparisons are needed of the cases that have no partner, and that require another thing than
+/// the last one that fits all on the other side.
 fn are_many(
     alloc: Global,
     relation: Relation,
@@ -95,14 +107,53 @@ fn are_many(
 ) -> Result<bool, AllocError>
     requires { AllByRecursion ExtrasRise (map summary_record left.now) }
 {
-    let mut others: usize = 0;
+    let mut comparisons: usize = 0;
+    let mut fitting: Option<&Summary> = None;
     for one in left {
         let has = has_partner(alloc, relation, places, one, right)?;
-        if !has {
-            others = others.saturating_add(1);
+        if has || is_like(one, fitting) {
+            continue;
+        }
+        comparisons = comparisons.saturating_add(right.len());
+        if comparisons > MANY {
+            return Ok(true);
+        }
+        if fits_all(alloc, relation, one, right)? {
+            fitting = Some(one);
         }
     }
-    Ok(others.saturating_mul(right.len()) > MANY)
+    Ok(false)
+}
+
+/// Whether two cases, the second if there is one, require the same.
+fn is_like(one: &Summary, fitting: Option<&Summary>) -> bool
+    ensures { IsTrue result → MatchOption fitting.entry ⊥
+        (λ other. Alike (summary_record one.now) (summary_record other.now)) }
+{
+    match fitting {
+        Some(other) => one.is_alike(other),
+        None => false,
+    }
+}
+
+/// Whether a case and each on the other side require what the relation has.
+fn fits_all(
+    alloc: Global,
+    relation: Relation,
+    one: &Summary,
+    right: &[Summary],
+) -> Result<bool, AllocError>
+    requires { ExtrasRise (summary_record one.now) }
+    ensures { IfOk result (λ fits.
+        IsTrue fits → FitsAll relation (map summary_record right.now) (summary_record one.now)) }
+{
+    for other in right {
+        let fits = one.fits(alloc, relation, other)?;
+        if !fits {
+            return Ok(false);
+        }
+    }
+    Ok(true)
 }
 
 /// Whether a case of the other side has the same tree, and both require what the relation has.
@@ -228,44 +279,80 @@ fn first_of_all(
     ensures { IfOk result (FindsTrees relation interner.now.nodes (map summary_record left.now)
         (map summary_record right.now)) }
 {
+    let mut fitting: Option<&Summary> = None;
     for one in left {
-        if let Some(other) = first_other(alloc, relation, interner, one, right, places)? {
-            return Ok(Some(Meeting {
-                one: one.tree,
-                other,
-            }));
+        match standing_of(alloc, relation, interner, one, right, places, fitting)? {
+            Standing::Fits => fitting = Some(one),
+            Standing::Passes => {}
+            Standing::Fails(other) => {
+                return Ok(Some(Meeting {
+                    one: one.tree,
+                    other,
+                }));
+            }
         }
     }
     Ok(None)
 }
 
-/// The tree of the first case on the right that holds together with `one`, where both don't require what the
-/// relation has.
-fn first_other(
+/// How a case stands to all cases on the right, where another one may be known to fit them all.
+fn standing_of(
     alloc: Global,
     relation: Relation,
     interner: &Interner,
     one: &Summary,
     right: &[Summary],
     places: &Places,
-) -> Result<Option<MarkerTree>, AllocError>
+    fitting: Option<&Summary>,
+) -> Result<Standing, AllocError>
     requires one { IsTree interner.now.nodes one.now.tree }
     requires rise { ExtrasRise (summary_record one.now) }
     requires right { AreOfTrees interner.now.nodes (map summary_record right.now) }
     requires apart { AreApart interner.now.nodes (map summary_record right.now) }
-    ensures { IfOk result (FindsOther relation interner.now.nodes (summary_record one.now)
+    requires fitting { IfSome fitting
+        (λ other. FitsAll relation (map summary_record right.now) (summary_record other.now)) }
+    ensures { IfOk result (FindsStanding relation interner.now.nodes (summary_record one.now)
         (map summary_record right.now)) }
 {
     let has = has_partner(alloc, relation, places, one, right)?;
     if has {
-        return Ok(None);
+        return Ok(Standing::Passes);
     }
+    if is_like(one, fitting) {
+        return Ok(Standing::Fits);
+    }
+    compared(alloc, relation, interner, one, right)
+}
+
+/// How a case stands to all cases on the right, each of which is compared up to the first that fails.
+fn compared(
+    alloc: Global,
+    relation: Relation,
+    interner: &Interner,
+    one: &Summary,
+    right: &[Summary],
+) -> Result<Standing, AllocError>
+    requires one { IsTree interner.now.nodes one.now.tree }
+    requires rise { ExtrasRise (summary_record one.now) }
+    requires right { AreOfTrees interner.now.nodes (map summary_record right.now) }
+    ensures { IfOk result (FindsStanding relation interner.now.nodes (summary_record one.now)
+        (map summary_record right.now)) }
+{
+    let mut fits_all = true;
     for other in right {
-        if !passes(alloc, relation, interner, one, other)? {
-            return Ok(Some(other.tree));
+        let fits = one.fits(alloc, relation, other)?;
+        if fits {
+            continue;
+        }
+        fits_all = false;
+        if !one.tree.is_disjoint(alloc, interner, other.tree)? {
+            return Ok(Standing::Fails(other.tree));
         }
     }
-    Ok(None)
+    if fits_all {
+        return Ok(Standing::Fits);
+    }
+    Ok(Standing::Passes)
 }
 
 /// Whether two cases require what the relation has, or never hold together.

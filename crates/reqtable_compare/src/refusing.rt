@@ -15,7 +15,7 @@ use pep440_specifier::{Operator, VersionSpecifier};
 use pep508_requirement::VersionOrUrl;
 use reqtable_range::has_range;
 use reqtable_requirements::Line;
-use reqtable_search::telling::is_bound;
+use reqtable_search::undecided::is_bound;
 use std::alloc::{AllocError, Global};
 
 /// A line that can't be compared.

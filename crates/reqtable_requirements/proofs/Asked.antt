@@ -15,7 +15,7 @@ use Rattle.pep508_requirement_text.specs.FrontReading.Source.{Any, Specifiers, U
 use Rattle.pep508_requirement.specs.RequirementReading.{AsksFor}
 use Rattle.pep508_requirement.specs.declared.version_or_url.VersionOrUrl.{VersionOrUrl}
 use Rattle.pep508_requirement.specs.declared.version_or_url.VersionOrUrl.TheVariants as asked
-use Rattle.reqtable_answer.specs.declared.lent.Ask.{Ask}
+use Rattle.reqtable_answer.specs.declared.ask.Ask.{Ask}
 use Rattle.reqtable_answer.specs.Says.{SaysSource, Says, SayAll, wanted_seen, marked_seen, requirement_seen}
 use Rattle.reqtable_answer.specs.Says.{asks_seen}
 use Rattle.reqtable_requirements.specs.LineReading.{LineRecord}

@@ -3,6 +3,6 @@
 
 mod gap;
 mod run;
-pub mod telling;
+pub mod undecided;
 
 pub use run::Run;

@@ -15,7 +15,7 @@ ghost use Rattle.reqtable_search.specs.InRun.{version_of, untold_from, StopsLate
 ghost use Rattle.reqtable_search.specs.Told.{IsPassed};
 
 use crate::gap::gap_end;
-use crate::telling::{next_place, untold_places};
+use crate::undecided::{next_place, untold_places};
 use pep440_version::Version;
 use pep508_name::PackageName;
 use reqtable_candidates::{Ordered, Placed};

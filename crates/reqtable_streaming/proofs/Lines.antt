@@ -3,7 +3,7 @@ use Rattle.std.proofs.Common.{◌<◌, List, [], ◌∷◌, length, arith}
 use Rattle.std.specs.List.{AllZip}
 use Rattle.pep508_diagram.specs.Question.{Valuation}
 use Rattle.pep508_url.specs.Vars.{Variables}
-use Rattle.reqtable_answer.specs.declared.lent.Ask.{Ask}
+use Rattle.reqtable_answer.specs.declared.ask.Ask.{Ask}
 use Rattle.reqtable_answer.specs.Says.{SayAll}
 use Rattle.reqtable_requirements.specs.declared.marked.MarkedLine.{MarkedLine}
 use Rattle.reqtable_requirements.specs.Asks.{asks_of}

@@ -16,13 +16,13 @@ use Rattle.pep440_operator.specs.declared.operator.Operator.TheVariants.{Greater
 use Rattle.pep440_specifier.specs.Building.{IsBuilt}
 use Rattle.pep440_specifier.specs.Matching.{SpecifierRecord, takes}
 use Rattle.pep440_specifier_list.specs.Lists.{matches_all}
-use Rattle.pep440_range.specs.Agreement.{IsSaid, Agrees, IsAgreeing}
+use Rattle.pep440_range.specs.Agreement.{agrees_beside_posts, IsSaid, Agrees, IsAgreeing}
 use Rattle.pep440_range.specs.Ranges.{range_of}
 use Rattle.pep440_range.proofs.Lists.{both_true, list_agrees, agreeing}
 use Rattle.pep508_requirement_text.specs.FrontReading.{Front}
 use Rattle.reqtable_answer.specs.Asks.{specifiers_of, has_url, ask_takes}
 use Rattle.pep508_cases.specs.Sets.{marked}
-use Rattle.reqtable_cases.specs.Usable.{members_asked, agrees_with_range, is_ranged, is_usable, points_of}
+use Rattle.reqtable_cases.specs.Usable.{members_asked, is_ranged, is_usable, points_of}
 use Rattle.reqtable_cases.specs.Usable.{IsRangeOf}
 use Rattle.reqtable_cases.proofs.Taken.{usable_takes}
 use Rattle.reqtable_table.specs.declared.kept.TableLine.{TableLine}
@@ -39,7 +39,7 @@ use Rattle.reqtable_table.proofs.MarkedAsks.{flag_seen}
 abbrev Read : SpecifierRecord → Type 0
 Read s = IsBuilt s × IsSaid s.version
 
-unbound : (operator : Operator) (version candidate : VersionRecord) → agrees_with_range operator version ≡ true →
+unbound : (operator : Operator) (version candidate : VersionRecord) → agrees_beside_posts operator version ≡ true →
     is_bound operator ≡ false → Agrees operator version candidate
 unbound ExactEqual version candidate e b = absurd (true≢false (sym e))
 unbound LessThan version candidate e b = absurd (true≢false b)
@@ -62,7 +62,7 @@ unbound_members : (candidate : VersionRecord) (members : List SpecifierRecord) �
 unbound_members candidate [] read e b = (tt, refl)
 unbound_members candidate (s ∷ members) read e b =
     let parts = both_true (is_ranged s) (list_all is_ranged members) e in
-    let here = both_true (agrees_with_range s.operator s.version) (is_some (range_of s)) parts.0 in
+    let here = both_true (agrees_beside_posts s.operator s.version) (is_some (range_of s)) parts.0 in
     let free = both_false (is_bound s.operator) (list_any (λ m. is_bound m.operator) members) b in
     let rest = unbound_members candidate members read.1 parts.1 free.1 in (
       (

@@ -24,7 +24,7 @@ use crate::sieving::{Asking, is_sifted_out};
 use pep440_version::Version;
 use reqtable_answer::Admission;
 use reqtable_search::Run;
-use reqtable_search::telling::is_told;
+use reqtable_search::undecided::is_told;
 use std::alloc::{AllocError, Global};
 use version_ranges::Ranges;
 

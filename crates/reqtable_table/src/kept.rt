@@ -8,7 +8,7 @@ use pep508_name::ExtraName;
 use pep508_tree::MarkerTree;
 use reqtable_groups::Given;
 use reqtable_marker_cache::Slots;
-use reqtable_search::telling::has_bound;
+use reqtable_search::undecided::has_bound;
 use std::alloc::{AllocError, Global};
 
 /// A line of a package.

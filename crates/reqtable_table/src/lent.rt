@@ -15,7 +15,7 @@ ghost use Rattle.reqtable_table.specs.Lasting.{StillServes};
 ghost use Rattle.reqtable_table.specs.Runs.{AreRunsOf, AreTold, IsToldIn};
 ghost use Rattle.reqtable_table.specs.Standing.{IsTable};
 
-use crate::asked::places_of;
+use crate::active_case::places_of;
 use crate::row::row_at;
 use crate::runs::Runs;
 use crate::table::Table;

@@ -1,7 +1,7 @@
 //! Tables of cases: for each package of a requirements text, which of its lines apply together.
 #![tactic(auto)]
 
-mod asked;
+mod active_case;
 mod case_limit;
 mod case_range;
 mod choosing_by_case;

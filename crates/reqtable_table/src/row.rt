@@ -26,7 +26,7 @@ ghost use Rattle.reqtable_table.specs.Owns.{own_record, runs_of};
 ghost use Rattle.reqtable_table.specs.Runs.{AreOrdered, AreRunsOf, IsTold, AreTold, IsToldIn};
 ghost use Rattle.reqtable_table.specs.Standing.{HasItsFlags, IsOfTexts, HasItsLines};
 
-use crate::asked::{extras_of, mark, place_of};
+use crate::active_case::{extras_of, mark, place_of};
 use crate::case_range::range_at;
 use crate::choosing_by_case::{any_marked, chosen};
 use crate::kept::TableLine;

@@ -90,6 +90,10 @@ impl<T: Ord> Boundary<T> {
 
 impl<T: RangeValue> Boundary<T> {
     /// Returns a copy, which equals its source: the value is cloned once. The only error is lack of memory.
+    ///
+    /// # Errors
+    ///
+    /// `AllocError` when memory runs out.
     pub fn try_clone(&self, alloc: Global) -> Result<Self, AllocError>
         ensures { IfOk result (λ copy. boundary_cmp T.cmp copy self.now ≡ Equal) }
     {

@@ -121,6 +121,10 @@ impl<T: RangeValue> Ranges<T> {
     }
 
     /// Returns the set of all points. It takes no memory.
+    ///
+    /// # Errors
+    ///
+    /// `AllocError` when memory runs out.
     pub fn full(alloc: Global) -> Result<Self, AllocError>
         ensures { IfOk result (λ set. (p : Point T) → holds_at T.cmp set p ≡ true) }
     {
@@ -132,6 +136,10 @@ impl<T: RangeValue> Ranges<T> {
 
     /// Returns the set of one point, at the value. The value is cloned once, since it bounds the set on
     /// both sides.
+    ///
+    /// # Errors
+    ///
+    /// `AllocError` when memory runs out.
     pub fn singleton(alloc: Global, value: T) -> Result<Self, AllocError>
         ensures { IfOk result (λ set. HoldsOnly T.cmp value set) }
     {
@@ -140,6 +148,10 @@ impl<T: RangeValue> Ranges<T> {
     }
 
     /// Returns the set of what is at the value or above it.
+    ///
+    /// # Errors
+    ///
+    /// `AllocError` when memory runs out.
     pub fn higher_than(alloc: Global, value: T) -> Result<Self, AllocError>
         ensures { IfOk result (λ set. (p : Point T) →
             holds_at T.cmp set p ≡ starts_by T.cmp (Included value) p) }
@@ -148,6 +160,10 @@ impl<T: RangeValue> Ranges<T> {
     }
 
     /// Returns the set of what is above the value.
+    ///
+    /// # Errors
+    ///
+    /// `AllocError` when memory runs out.
     pub fn strictly_higher_than(alloc: Global, value: T) -> Result<Self, AllocError>
         ensures { IfOk result (λ set. (p : Point T) →
             holds_at T.cmp set p ≡ starts_by T.cmp (Excluded value) p) }
@@ -156,6 +172,10 @@ impl<T: RangeValue> Ranges<T> {
     }
 
     /// Returns the set of what is at the value or below it.
+    ///
+    /// # Errors
+    ///
+    /// `AllocError` when memory runs out.
     pub fn lower_than(alloc: Global, value: T) -> Result<Self, AllocError>
         ensures { IfOk result (λ set. (p : Point T) →
             holds_at T.cmp set p ≡ goes_on_to T.cmp (Included value) p) }
@@ -164,6 +184,10 @@ impl<T: RangeValue> Ranges<T> {
     }
 
     /// Returns the set of what is below the value.
+    ///
+    /// # Errors
+    ///
+    /// `AllocError` when memory runs out.
     pub fn strictly_lower_than(alloc: Global, value: T) -> Result<Self, AllocError>
         ensures { IfOk result (λ set. (p : Point T) →
             holds_at T.cmp set p ≡ goes_on_to T.cmp (Excluded value) p) }
@@ -173,6 +197,10 @@ impl<T: RangeValue> Ranges<T> {
 
     /// Returns the set of what lies between a lower and an upper bound; the empty set where the lower one
     /// is not below the upper one.
+    ///
+    /// # Errors
+    ///
+    /// `AllocError` when memory runs out.
     pub fn from_range_bounds(
         alloc: Global,
         bounds: (Bound<T>, Bound<T>),
@@ -198,6 +226,10 @@ impl<T: RangeValue> Ranges<T> {
     }
 
     /// Returns a copy, which equals its source. Each value is cloned once.
+    ///
+    /// # Errors
+    ///
+    /// `AllocError` when memory runs out.
     pub fn try_clone(&self, alloc: Global) -> Result<Self, AllocError>
         ensures { IfOk result (λ copy. HoldSamePoints T.cmp copy self.now) }
     {
@@ -209,6 +241,10 @@ impl<T: RangeValue> Ranges<T> {
 /// Combinations: each makes one pass over its sets, and clones each endpoint that the result keeps once.
 impl<T: RangeValue> Ranges<T> {
     /// Returns the set of the points that this one does not hold, with one copy of the endpoints.
+    ///
+    /// # Errors
+    ///
+    /// `AllocError` when memory runs out.
     pub fn complement(&self, alloc: Global) -> Result<Self, AllocError>
         ensures { IfOk result (λ set. (p : Point T) →
             holds_at T.cmp set p ≡ not (holds_at T.cmp self.now p)) }
@@ -218,6 +254,10 @@ impl<T: RangeValue> Ranges<T> {
     }
 
     /// Returns the set of the points that both sets hold. Linear in the endpoints of the two.
+    ///
+    /// # Errors
+    ///
+    /// `AllocError` when memory runs out.
     pub fn intersection(&self, alloc: Global, other: &Self) -> Result<Self, AllocError>
         ensures { IfOk result (λ set. (p : Point T) →
             holds_at T.cmp set p ≡ (holds_at T.cmp self.now p && holds_at T.cmp other.now p)) }
@@ -226,6 +266,10 @@ impl<T: RangeValue> Ranges<T> {
     }
 
     /// Returns the set of the points that either set holds. Linear in the endpoints of the two.
+    ///
+    /// # Errors
+    ///
+    /// `AllocError` when memory runs out.
     pub fn union(&self, alloc: Global, other: &Self) -> Result<Self, AllocError>
         ensures { IfOk result (λ set. (p : Point T) →
             holds_at T.cmp set p ≡ (holds_at T.cmp self.now p || holds_at T.cmp other.now p)) }

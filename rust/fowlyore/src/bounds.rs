@@ -29,7 +29,8 @@ pub struct Bounds {
     pub nodes: usize,
     /// How many clauses a marker may be printed of, before they are simplified.
     pub clauses: usize,
-    /// How many cases all packages of a list may have together, where each may have as many as a call's limit.
+    /// How many cases of all packages of a list may be made, where each may have as many as a call's limit.
+    /// `same` and `covers` make none of a few equal lines, and `conflicts` none of a few with a common version.
     pub cases: u64,
 }
 

@@ -36,6 +36,7 @@
 #[cfg(reqs_absent)]
 mod absent;
 mod answers;
+mod assuming;
 mod bounds;
 mod elements;
 mod grammar;
@@ -49,6 +50,7 @@ mod specifiers;
 mod version;
 
 pub use answers::{Conflict, Covers, Outcome, Row, Same};
+pub use assuming::Assuming;
 pub use bounds::{Bounded, Bounds};
 pub use lists::{
     check, check_json, check_text, conflicts, conflicts_json, conflicts_text, covers, covers_json,

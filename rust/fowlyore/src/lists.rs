@@ -177,8 +177,17 @@ fn lines_of(text: &str) -> std::str::SplitTerminator<'_, char> {
     grammar::lines(text).expect("the library prints whole lines")
 }
 
+/// The conflicts that the library prints.
+pub(crate) fn conflicts_of(text: &str) -> Vec<Conflict> {
+    let conflict = |it: &str| it.parse().expect("the library prints conflicts");
+    lines_of(text).map(conflict).collect()
+}
+
 /// What the library answers of two lists: yes, or what it prints of the first package and place where not.
-fn related<Answer: FromStr<Err = Refused>>(answer: native::Answer, yes: Answer) -> Answer {
+pub(crate) fn related<Answer: FromStr<Err = Refused>>(
+    answer: native::Answer,
+    yes: Answer,
+) -> Answer {
     if !answer.is_different {
         return yes;
     }
@@ -508,9 +517,8 @@ impl Bounds {
     ///
     /// As those of [`conflicts`], beyond these bounds.
     pub fn conflicts(self, requirements: &[u8], limit: u64) -> Result<Vec<Conflict>, Refused> {
-        let text = self.conflicts_text(requirements, limit)?;
-        let conflict = |it: &str| it.parse().expect("the library prints conflicts");
-        Ok(lines_of(&text).map(conflict).collect())
+        self.conflicts_text(requirements, limit)
+            .map(|it| conflicts_of(&it))
     }
 
     /// The text of [`conflicts_text`] within the bounds on nodes and cases.

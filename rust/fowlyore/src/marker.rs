@@ -312,7 +312,7 @@ impl MarkerTree {
     ///
     /// # Errors
     ///
-    /// `Refused` if a part is nested too deep and has no normal text.
+    /// `Refused` if a part is nested too deep and has no normal text within `Bounds::default()`.
     pub fn and(&self, other: &MarkerTree) -> Result<MarkerTree, Refused> {
         match (self.is_left_out(), other.is_left_out()) {
             (true, _) => Ok(other.clone()),
@@ -335,7 +335,7 @@ impl MarkerTree {
     ///
     /// # Errors
     ///
-    /// `Refused` if a part is nested too deep and has no normal text.
+    /// `Refused` if a part is nested too deep and has no normal text within `Bounds::default()`.
     pub fn or(&self, other: &MarkerTree) -> Result<MarkerTree, Refused> {
         if self.is_left_out() || other.is_left_out() {
             return Ok(MarkerTree::default());
@@ -568,12 +568,14 @@ impl Connective {
 
 impl Clone for MarkerTree {
     fn clone(&self) -> MarkerTree {
+        // (before when it holds, which another thread may make now: a key isn't without it)
+        let key = self.key.clone();
         MarkerTree {
             text: self.text.clone(),
             joined: self.joined,
             brackets: self.brackets,
             truth: AtomicU8::new(self.truth.load(MemoryOrdering::Relaxed)),
-            key: self.key.clone(),
+            key,
         }
     }
 }

@@ -101,6 +101,36 @@ extern "C" {
         requirements: *const u8, requirements_len: usize, nodes: usize, clauses: usize,
         out: *mut u8, out_len: usize,
     ) -> Reply;
+    fn reqs_same_where(
+        left: *const u8, left_len: usize, right: *const u8, right_len: usize,
+        assumption: *const u8, assumption_len: usize,
+        limit: u64, nodes: usize, clauses: usize, cases: u64, out: *mut u8, out_len: usize,
+    ) -> Reply;
+    fn reqs_covers_where(
+        lock: *const u8, lock_len: usize, requirements: *const u8, requirements_len: usize,
+        assumption: *const u8, assumption_len: usize,
+        limit: u64, nodes: usize, clauses: usize, cases: u64, out: *mut u8, out_len: usize,
+    ) -> Reply;
+    fn reqs_conflicts_where(
+        requirements: *const u8, requirements_len: usize,
+        assumption: *const u8, assumption_len: usize,
+        limit: u64, nodes: usize, cases: u64, out: *mut u8, out_len: usize,
+    ) -> Reply;
+    fn reqs_same_where_json(
+        left: *const u8, left_len: usize, right: *const u8, right_len: usize,
+        assumption: *const u8, assumption_len: usize,
+        limit: u64, nodes: usize, clauses: usize, cases: u64, out: *mut u8, out_len: usize,
+    ) -> Reply;
+    fn reqs_covers_where_json(
+        lock: *const u8, lock_len: usize, requirements: *const u8, requirements_len: usize,
+        assumption: *const u8, assumption_len: usize,
+        limit: u64, nodes: usize, clauses: usize, cases: u64, out: *mut u8, out_len: usize,
+    ) -> Reply;
+    fn reqs_conflicts_where_json(
+        requirements: *const u8, requirements_len: usize,
+        assumption: *const u8, assumption_len: usize,
+        limit: u64, nodes: usize, cases: u64, out: *mut u8, out_len: usize,
+    ) -> Reply;
     fn reqs_version(text: *const u8, text_len: usize, out: *mut u8, out_len: usize) -> Reply;
     fn reqs_version_key(text: *const u8, text_len: usize, out: *mut u8, out_len: usize) -> i64;
     fn reqs_specifiers(text: *const u8, text_len: usize, out: *mut u8, out_len: usize) -> Reply;
@@ -477,6 +507,70 @@ pub(crate) fn conflicts(
     let answer = match format {
         Format::Text => asked!(reqs_conflicts, room, requirements; limit, nodes, cases),
         Format::Json => asked!(reqs_conflicts_json, room, requirements; limit, nodes, cases),
+    };
+    answer.map(Answer::text)
+}
+
+pub(crate) fn same_where(
+    [left, right]: [&[u8]; 2],
+    assumption: &str,
+    limit: u64,
+    bounds: Bounds,
+    format: Format,
+) -> Result<Answer, Refused> {
+    let Bounds {
+        nodes,
+        clauses,
+        cases,
+    } = bounds;
+    match format {
+        Format::Text => {
+            asked!(reqs_same_where, ROOM, left, right, assumption; limit, nodes, clauses, cases)
+        }
+        Format::Json => {
+            asked!(reqs_same_where_json, ROOM, left, right, assumption; limit, nodes, clauses, cases)
+        }
+    }
+}
+
+pub(crate) fn covers_where(
+    [lock, list]: [&[u8]; 2],
+    assumption: &str,
+    limit: u64,
+    bounds: Bounds,
+    format: Format,
+) -> Result<Answer, Refused> {
+    let Bounds {
+        nodes,
+        clauses,
+        cases,
+    } = bounds;
+    match format {
+        Format::Text => {
+            asked!(reqs_covers_where, ROOM, lock, list, assumption; limit, nodes, clauses, cases)
+        }
+        Format::Json => {
+            asked!(reqs_covers_where_json, ROOM, lock, list, assumption; limit, nodes, clauses, cases)
+        }
+    }
+}
+
+pub(crate) fn conflicts_where(
+    requirements: &[u8],
+    assumption: &str,
+    limit: u64,
+    bounds: Bounds,
+    format: Format,
+) -> Result<String, Refused> {
+    let Bounds { nodes, cases, .. } = bounds;
+    let room = format.room_for_rows(requirements, 1);
+    let answer = match format {
+        Format::Text => {
+            asked!(reqs_conflicts_where, room, requirements, assumption; limit, nodes, cases)
+        }
+        Format::Json => {
+            asked!(reqs_conflicts_where_json, room, requirements, assumption; limit, nodes, cases)
+        }
     };
     answer.map(Answer::text)
 }

@@ -8,6 +8,8 @@ use std::fmt;
 /// ```
 /// let refused = fowlyore::check(b"foo>=1\nbar>>2\n", b"{}", b"", &[]).unwrap_err();
 /// assert_eq!((refused.input, refused.line, refused.start, refused.len), (1, 2, 3, 3));
+/// let refused = "foo ;".parse::<fowlyore::Requirement>().unwrap_err();
+/// assert_eq!((refused.start, refused.len), (5, 1));
 /// ```
 #[derive(Clone, Debug, PartialEq, Eq, Hash)]
 pub struct Refused {
@@ -19,7 +21,8 @@ pub struct Refused {
     pub line: usize,
     /// The first byte at fault, in the line or the text.
     pub start: usize,
-    /// The number of bytes at fault.
+    /// The number of bytes at fault, which is 1 for what is missing at the end, where there is no byte; 0 if it
+    /// is unknown.
     pub len: usize,
 }
 

@@ -6,12 +6,17 @@ use std::process::{Command, Output};
 
 /// Runs cargo on this crate, where the library is in no folder.
 fn cargo(words: &[&str]) -> Output {
+    cargo_with("/no/such/folder", words)
+}
+
+/// Runs cargo on this crate, where the library is looked for in a folder.
+fn cargo_with(folder: &str, words: &[&str]) -> Output {
     let target = Path::new(env!("CARGO_TARGET_TMPDIR")).join("without_library");
     Command::new(env!("CARGO"))
         .args(words)
         .arg("--offline")
         .current_dir(env!("CARGO_MANIFEST_DIR"))
-        .env("REQS_LIB_DIR", "/no/such/folder")
+        .env("REQS_LIB_DIR", folder)
         .env("CARGO_TARGET_DIR", target)
         .output()
         .expect("cargo runs")
@@ -44,4 +49,14 @@ fn linking_says_what_is_missing() {
         "{errors}"
     );
     assert!(!errors.contains("reqs_version_key"), "{errors}");
+}
+
+#[test]
+fn a_relative_folder_is_told_by_its_whole_path() {
+    let made = cargo_with("no/such", &["check"]);
+    let errors = errors_of(&made);
+    assert!(made.status.success(), "{errors}");
+    let whole = Path::new(env!("CARGO_MANIFEST_DIR")).join("no/such/libreqs.a");
+    let told = format!("there is no {}", whole.display());
+    assert!(errors.contains(&told), "{errors}");
 }

@@ -6,8 +6,8 @@ loop-boundary-preserved g c =
     let arm = c.in-Some in
     passing_more g.met.T.Ord.total arm.boundary.now c.loop-boundary.child c.loop-boundary.left.now arm.next.0
     arm.next.1.now c.loop-boundary.other_child c.loop-boundary.other_left.now arm.other_next.0 arm.other_next.1.now
-    c.loop-boundary.pairs.items c.push.new.self.items c.in_ok-copy_of.field-0 c.loop-boundary.invariant arm.ensures
-    c.in_ok-copy_of.ensures c.in_ok-push.ensures.items
+    c.loop-boundary.pairs.items c.push.new.self.items c.in_ok-copy_of_boundary.field-0 c.loop-boundary.invariant arm.ensures
+    c.in_ok-copy_of_boundary.ensures c.in_ok-push.ensures.items
 
 pub returns-clause-points : goal.returns-clause-points
 returns-clause-points g c =

@@ -1,5 +1,5 @@
 use Rattle.std.proofs.Common.{◌≡◌, ◌++◌, drop}
-use Rattle.pep508_leaf_diagram.specs.Joining.{joined_by}
+use Rattle.pep508_diagram.specs.Joining.{joined_by}
 use Rattle.pep508_leaf_diagram.proofs.form.joined.Given as goal
 
 abbrev pub invariant-loop-branch : goal.invariant-loop-branch

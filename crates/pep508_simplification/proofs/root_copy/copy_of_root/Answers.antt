@@ -5,7 +5,7 @@ use Rattle.pep508_simplification.proofs.Rooted.{copy_versions, copy_texts}
 use Rattle.pep508_simplification.proofs.root_copy.copy_of_root.Goals.{in-Constant}
 use Rattle.pep508_simplification.proofs.root_copy.copy_of_root.Goals.{in-Versions+in_ok-later-in-Versions}
 use Rattle.pep508_simplification.proofs.root_copy.copy_of_root.Goals.{in-Texts+in_ok-later-in-Texts}
-use Rattle.pep508_simplification.proofs.root_copy.copy_of_root.Goals.{in-Flagged+in_ok-copy_of_flag-in-Flagged}
+use Rattle.pep508_simplification.proofs.root_copy.copy_of_root.Goals.{in-Flagged+in_ok-try_clone-in-Flagged}
 use Rattle.pep508_simplification.proofs.root_copy.copy_of_root.Goals as goal
 
 pub returns-clause-copy : goal.returns-clause-copy
@@ -25,5 +25,5 @@ returns-clause-copy c =
           ∙ copy_texts n.negated w.in-Texts.key n.first w.turned-in-Texts.result n.later.now
           w.in_ok-later-in-Texts.later.items w.turned-in-Texts.ensures w.in_ok-later-in-Texts.ensures root
           (ap shown (sym w.in-Texts.is) ∙ c.node.ensures.shows)
-      | in-Flagged+in_ok-copy_of_flag-in-Flagged w ↦ search rules
+      | in-Flagged+in_ok-try_clone-in-Flagged w ↦ search rules
     ]

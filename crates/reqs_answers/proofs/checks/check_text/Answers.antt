@@ -23,5 +23,5 @@ pub returns : goal.returns
 returns c =
     whole_check c.args.vars.now _ c.args.requirements.now.items c.args.environment.now.items c.args.candidates.now.items c.deref.result.now
     c.in_ok-requirements.ensures.0 (c.in_ok-extras.ensures ∙ ap (λ l. Ok l) (sym c.deref.ensures.value))
-    c.in_ok-requirements.ensures.1 c.args.format c.text_behind.result
+    c.in_ok-requirements.ensures.1 c.args.strict c.args.format c.text_behind.result
     (c.text_behind.ensures c.args.vars.now c.in_ok-requirements.ensures.0 c.in_ok-requirements.ensures.2)

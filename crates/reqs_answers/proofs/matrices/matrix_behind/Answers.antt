@@ -42,7 +42,11 @@ returns-in-Ok c = λ vars said stands.
       (
         record { extras = c.args.extras.now; lines = said; second = c.deref.result.now; candidates = c.in_ok-candidates.candidates },
         rw (c.in_ok-environments.ensures ∙ ap (λ l. Ok l) (sym c.deref.ensures.value), c.in_ok-candidates.ensures) refl,
-        (record { few = built.2; is_text = c.in-Ok.ensures said built.0 }, made.0.2),
+        (
+          record { few = built.2; is_text = c.in-Ok.ensures.text said built.0 },
+          made.0.2,
+          c.in-Ok.ensures.status said built.0,
+        ),
       ),
       made.1,
     )

@@ -27,6 +27,6 @@ pub returns : goal.returns
 returns c =
     whole_matrix c.args.vars.now _ c.args.requirements.now.items c.args.environments.now.items c.args.candidates.now.items c.deref.result.now
     c.in_ok-requirements.ensures.lines.0.0 (c.in_ok-extras.ensures ∙ ap (λ l. Ok l) (sym c.deref.ensures.value))
-    c.in_ok-requirements.ensures.lines.0.1 c.args.request.bounds c.matrix_behind.new.interner.nodes c.args.request.format
-    c.args.request.limit _ c.matrix_behind.result
+    c.in_ok-requirements.ensures.lines.0.1 c.args.request.bounds c.matrix_behind.new.interner.nodes c.args.request.strict
+    c.args.request.format c.args.request.limit _ c.matrix_behind.result
     (c.matrix_behind.ensures c.args.vars.now c.in_ok-requirements.ensures.lines.0.0 c.in_ok-requirements.ensures.lines.0.2)

@@ -7,3 +7,8 @@ pub has_partner-requires : goal.has_partner-requires
 has_partner-requires c =
     all_at summary_record ExtrasRise c.args.left.now c.loop-one.one-index c.one-item.result c.loop-one-test.true
     c.one-item.is c.requires
+
+pub fits_all-requires : goal.fits_all-requires
+fits_all-requires c =
+    all_at summary_record ExtrasRise c.args.left.now c.loop-one.one-index c.one-item.result c.loop-one-test.true
+    c.one-item.is c.requires

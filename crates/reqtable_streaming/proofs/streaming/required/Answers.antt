@@ -1,6 +1,6 @@
 use Rattle.std.proofs.Common.{◌∙◌, ◌==◌, List, length, ap, sym, subst}
 use Rattle.reqtable_answer.specs.Says.{asks_seen}
-use Rattle.reqtable_answer.specs.declared.lent.Ask.{Ask}
+use Rattle.reqtable_answer.specs.declared.ask.Ask.{Ask}
 use Rattle.reqtable_streaming.specs.Packages.{AreNew}
 use Rattle.reqtable_streaming.proofs.Counting.{none_required}
 use Rattle.reqtable_streaming.proofs.streaming.required.Goals as goal

@@ -1,6 +1,6 @@
 use Rattle.std.proofs.Common.{List, sym, subst}
 use Rattle.pep508_evaluation.specs.Valuations.{valuation_of}
-use Rattle.reqtable_answer.specs.declared.lent.Ask.{Ask}
+use Rattle.reqtable_answer.specs.declared.ask.Ask.{Ask}
 use Rattle.reqtable_answer.specs.Says.{SayAll}
 use Rattle.reqtable_requirements.specs.Asks.{asks_of}
 use Rattle.reqtable_requirements.proofs.Asked.{if_ok}

@@ -1,5 +1,0 @@
-use Rattle.std.proofs.Common.{◌≡◌, map, take}
-use Rattle.pep508_leaf_diagram.proofs.form.children_of.Given as goal
-
-abbrev pub invariant-loop-branch : goal.invariant-loop-branch
-invariant-loop-branch g l = l.children.items ≡ map (λ branch. branch.child) (take l.branch-index l.later)

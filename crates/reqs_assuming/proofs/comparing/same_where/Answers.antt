@@ -1,0 +1,40 @@
+use Rattle.std.proofs.Common.{◌≡◌, ℕ, ◌∷◌, [], Vec, Global, rules, string_bytes}
+use Rattle.std.proofs.lemmas.Result.{err_from_is_err_and}
+use Rattle.reqs_io_faults.proofs.Steps.{first_unread, second_unread, answered}
+use Rattle.reqs_assuming.proofs.Refused.{same_refused}
+use Rattle.reqs_assuming.proofs.comparing.same_where.Goals as goal
+
+pub returns-in_err-left-clause-runs : goal.returns-in_err-left-clause-runs
+returns-in_err-left-clause-runs g c =
+    let p = err_from_is_err_and c.from_residual.result c.from_residual.ensures.1 in
+    let bytes : Vec ℕ Global → _ = λ read. read.items in
+    rw (p.1, p.2) (first_unread _ _ _ _ _ _ _ bytes _ c.in_err-left.ensures)
+
+pub returns-in_err-right-clause-runs : goal.returns-in_err-right-clause-runs
+returns-in_err-right-clause-runs g c =
+    let p = err_from_is_err_and c.from_residual-in_err-right.result c.from_residual-in_err-right.ensures.1 in
+    let bytes : Vec ℕ Global → _ = λ read. read.items in
+    rw (p.1, p.2)
+    (second_unread _ _ _ _ _ _ _ _ c.in_ok-left.left.items c.in_ok-left.ensures bytes _
+    c.in_err-right.ensures)
+
+pub returns-in_err-answer-clause-runs : goal.returns-in_err-answer-clause-runs
+returns-in_err-answer-clause-runs g c =
+    let left_by = c.from_residual-in_err-answer in
+    let p = err_from_is_err_and left_by.result left_by.ensures.1 in
+    let left = c.in_ok-left.ensures in
+    let right = c.in_ok-right.ensures in
+    rw (p.1, p.2)
+    (same_refused _ _ _ _ (c.in_ok-left.left.items ∷ c.in_ok-right.right.items ∷ [])
+    (left.0, (right.0, tt)) (left.1, (right.1, tt)) c.args.terms.now.vars.now _ c.args.terms.now.format _
+    c.args.terms.now.bounds c.same_answer.new.interner.nodes c.args.limit c.in_err-answer.ensures)
+
+pub returns-clause-runs : goal.returns-clause-runs
+returns-clause-runs g c =
+    let left = c.in_ok-left.ensures in
+    let right = c.in_ok-right.ensures in
+    let answer = c.in_ok-answer.answer in
+    let bytes : c.as_str.result.now ≡ string_bytes answer.text = search rules in
+    answered _ _ _ _ _ _ (c.in_ok-left.left.items ∷ c.in_ok-right.right.items ∷ [])
+    (left.0, (right.0, tt)) (left.1, (right.1, tt)) answer.status (string_bytes answer.text)
+    c.in_ok-answer.ensures c.write_answer.result (rw bytes at c.write_answer.ensures)

@@ -1,0 +1,38 @@
+-- The command `covers` where a condition holds, from the bytes of two lists to those of its answer.
+use Rattle.std.specs.Prelude.{◌≤◌, ◌⊎◌, ℕ, List, ◌∷◌, [], length, Option, Result}
+use Rattle.pep508_url.specs.Vars.{Variables}
+use Rattle.pep508_tree.specs.Meaning.{NodeRecord}
+use Rattle.reqtable_assumption.specs.Where.{Condition}
+use Rattle.reqs_json.specs.declared.format.Format.{Format}
+use Rattle.reqs_io_faults.specs.declared.bounds.Bounds.{Bounds}
+use Rattle.reqs_io_faults.specs.declared.fault.RunFault.{RunFault}
+use Rattle.reqs_io_faults.specs.declared.fault.Status.{Status}
+use Rattle.reqs_io_faults.specs.Ends.{Answering, Refusing, Runs}
+use Rattle.reqs_io_faults.specs.Within.{RefusesOr}
+use Rattle.reqs_lists.specs.Covered.{IsFewCovers, OutgrowsOrUncovered}
+use Rattle.reqs_lists.specs.Lists.{IsRead, PassesInEither}
+use Rattle.reqs_assuming.specs.Comparison.{SameRefusesWhere}
+use Rattle.reqs_assuming.specs.Lists.{two_lists_where}
+
+-- the answer for the texts of lists, with at most so many nodes
+abbrev pub CoversAnswersWhere : Condition → Bounds → List NodeRecord → Format → ℕ → Variables → Answering
+CoversAnswersWhere condition bounds nodes format limit vars inputs ended text =
+    IsRead (two_lists_where condition vars inputs)
+    (λ lists. IsFewCovers format limit bounds.clauses lists ended text)
+    × (length nodes ≤ bounds.nodes)
+
+-- a bound was passed: at a line, or once lists were parsed
+abbrev pub CoversPassesWhere : Condition → Bounds → List NodeRecord → ℕ → Variables → Refusing
+CoversPassesWhere condition bounds nodes limit vars inputs fault =
+    PassesInEither vars bounds.nodes nodes inputs fault
+    ⊎ IsRead (two_lists_where condition vars inputs)
+    (λ lists. OutgrowsOrUncovered bounds nodes limit lists fault)
+
+-- `covers` ends with this result where the condition holds, for the bytes that its readers have of the lock
+-- and of the requirements, with these nodes afterwards
+abbrev pub RunsCoversWhere : {W : Type 0} → Condition → Bounds → List NodeRecord → Format → ℕ → Variables
+    → Option (List ℕ) → Option (List ℕ) → (W → Option (List ℕ)) → W → W → Result Status RunFault → Type 0
+RunsCoversWhere condition bounds nodes format limit vars lock requirements contents old new result =
+    Runs (CoversAnswersWhere condition bounds nodes format limit vars)
+    (RefusesOr (CoversPassesWhere condition bounds nodes limit vars)
+    (SameRefusesWhere condition bounds limit vars)) (lock ∷ requirements ∷ []) contents old new result

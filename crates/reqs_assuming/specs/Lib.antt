@@ -1,0 +1,6 @@
+pub mod Conditions
+pub mod Lists
+pub mod Restricted
+pub mod Comparison
+pub mod Covered
+pub mod Contradictions

@@ -1,0 +1,10 @@
+use Rattle.std.proofs.Common.{◌∷◌, []}
+use Rattle.reqs_c_assuming.proofs.AtHand.{with_condition}
+use Rattle.reqs_c_assuming.specs.Assuming.{ConflictsEndUnder}
+use Rattle.reqs_c_assuming.proofs.contradicting.contradicted.Goals as goal
+
+pub returns : goal.returns
+returns c =
+    with_condition 2 (ConflictsEndUnder c.args.format c.args.limit c.args.bounds (c.args.requirements.now ∷ []))
+    c.args.assumption.now c.in-Ok-no_variables.vars c.in-Ok.formula _ c.in-Ok-no_variables.ensures c.in-Ok.ensures.formula
+    c.contradicted_with.ensures

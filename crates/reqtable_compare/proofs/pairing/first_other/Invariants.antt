@@ -1,8 +1,0 @@
-use Rattle.std.proofs.Common.{map, take}
-use Rattle.reqtable_compare.specs.Seen.{summary_record}
-use Rattle.reqtable_compare.specs.Pairs.{PassesAll}
-use Rattle.reqtable_compare.proofs.pairing.first_other.Given as goal
-
-abbrev pub invariant-loop-other : goal.invariant-loop-other
-invariant-loop-other l =
-    PassesAll l.fn.relation l.interner.nodes (map summary_record (take l.other-index l.right)) (summary_record l.one)

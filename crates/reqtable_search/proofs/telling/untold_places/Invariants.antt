@@ -1,6 +1,0 @@
-use Rattle.std.proofs.Common.{◌≡◌, take}
-use Rattle.reqtable_search.specs.InRun.{untold_from}
-use Rattle.reqtable_search.proofs.telling.untold_places.Given as goal
-
-abbrev pub invariant-loop-index : goal.invariant-loop-index
-invariant-loop-index l = l.places.items ≡ untold_from l.bounded 0 (take l.index l.placed)
