@@ -99,11 +99,12 @@ class KeptProver(Unmarking):
         return LIBRARY if self.is_written(name) else UNUSED
 
     def is_written(self, name):
-        """Whether the store has a library of a run from nothing, which writes each, over those that are there."""
+        """Whether the store has it as a library over those that are there, as a run from nothing leaves each, and a tree where
+        another crate uses it."""
         if name not in self.written:
-            fits = {self.form(it) for it in self.crates[name].uses} <= FITS[NOTHING]
-            entry, parts = f"{keys.of_proof(self.crates, name)}.{LIBRARY}", [f"rlib/{name}.rlib"]
-            self.written[name] = fits and self.store.has(entry, parts)
+            below, parts = {self.form(it) for it in self.crates[name].uses}, [f"rlib/{name}.rlib"]
+            has = lambda form: below <= FITS[form] and self.store.has(self.entry_of(form, name, LIBRARY), parts)
+            self.written[name] = any(has(it) for it in FITS)
         return self.written[name]
 
     def parts(self, name, tests=False):
@@ -137,9 +138,12 @@ class KeptProver(Unmarking):
         return FIRST if below <= FITS[FIRST] and not is_known else WHOLE
 
     def entry_in(self, form, name, tests):
-        kind = self.kind(name, tests)
+        return self.entry_of(form, name, self.kind(name, tests))
+
+    def entry_of(self, form, name, kind):
+        """The name in the store of what was proved in a form of a crate, or of its tests, by its kind."""
         if form == NOTHING:
-            return super().entry(name, tests)
+            return f"{keys.of_proof(self.crates, name)}.{kind}"
         if form == FIRST:
             return f"{keys.summed((keys.of_proof(self.crates, name), keys.scripts_sum(keys.OF_KEPT)))}.{kind}.first"
         if kind in (LIBRARY, UNUSED):
