@@ -178,6 +178,17 @@ reqs_reply reqs_normal_json(const uint8_t *requirements, size_t requirements_len
  * number that follows those of the lists as input: 3, and 2 in reqs_conflicts_where. Its tree counts among `nodes`
  * too. */
 
+/* The text of a marker that holds where all that is assumed does, as `--assume`, `--python` and `--assume-real` join
+ * it: the marker `marker`; that each specifier of `python`, as >=3.9,<3.13, accepts python_full_version; and, where
+ * `real` is not 0, that os_name, sys_platform and platform_system say together that it is Windows, Linux or macOS, or
+ * none of them says so, as in CPython, PyPy and GraalPy. An empty `marker` is none, and `python` may be empty; the text
+ * is empty if nothing is assumed. A specifier that markers don't have, as ===3.9, makes a text that is not a marker.
+ * A text that is not a marker is refused as by reqs_marker_check, and then one that is not a list as by
+ * reqs_specifiers. Linear in the texts, but for sorting the specifiers. */
+reqs_reply reqs_assumption(const uint8_t *marker, size_t marker_len,
+                           const uint8_t *python, size_t python_len,
+                           uint64_t real, uint8_t *out, size_t out_len);
+
 /* What reqs_same answers where the assumption holds. */
 reqs_reply reqs_same_where(const uint8_t *left, size_t left_len,
                            const uint8_t *right, size_t right_len,

@@ -9,6 +9,7 @@ proved.
 """
 
 from ._bounds import bounds
+from .assumptions import assumption
 from .errors import Refused
 from .distributions import installed
 from .files import read
@@ -58,6 +59,7 @@ __all__ = [
     "UndefinedComparison",
     "UndefinedEnvironmentName",
     "Version",
+    "assumption",
     "bounds",
     "check",
     "conflicts",

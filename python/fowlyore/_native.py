@@ -348,6 +348,7 @@ _same = _call("reqs_same", 2, numbers=4, long=LONG_MARKERS)
 _covers = _call("reqs_covers", 2, numbers=4, long=LONG_MARKERS)
 _conflicts = _call("reqs_conflicts", 1, numbers=3, long=LONG_MARKERS)
 _normal = _call("reqs_normal", 1, numbers=2, long=LONG_MARKERS)
+_assumption = _call_if_there("reqs_assumption", 2, numbers=1, long=LONG_TEXTS)
 _same_where = _call_if_there("reqs_same_where", 3, numbers=4, long=LONG_MARKERS)
 _covers_where = _call_if_there("reqs_covers_where", 3, numbers=4, long=LONG_MARKERS)
 _conflicts_where = _call_if_there("reqs_conflicts_where", 2, numbers=3, long=LONG_MARKERS)
@@ -535,6 +536,11 @@ def conflicts(requirements: bytes, limit: int, nodes: int, cases: int) -> str:
 def normal(requirements: bytes, nodes: int, clauses: int) -> str:
     """What `reqs normal` prints."""
     return _normal(requirements, numbers=(nodes, clauses), size=_size_for(requirements)).decode()
+
+
+def assumption(marker: bytes, python: bytes, real: bool) -> str:
+    """The text of the marker of what is assumed, empty if nothing is."""
+    return _assumption(marker, python, numbers=(int(real),), size=_size_for(marker, python)).decode()
 
 
 # The same where the marker `assumption` holds.

@@ -1,4 +1,5 @@
 pub mod Conditions
+pub mod Assumptions
 pub mod Lists
 pub mod Restricted
 pub mod Comparison

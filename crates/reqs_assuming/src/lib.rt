@@ -13,6 +13,7 @@
 //! ```
 
 mod assumed;
+mod assumption;
 mod comparing;
 mod condition;
 mod contradicting;
@@ -20,6 +21,7 @@ mod covering;
 pub mod laws;
 mod terms;
 
+pub use assumption::{REAL, assumed_condition, assumption_text};
 pub use comparing::same_where;
 pub use condition::read_condition;
 pub use contradicting::conflicts_where;

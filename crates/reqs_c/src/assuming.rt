@@ -2,13 +2,30 @@
 //!
 //! `assumption` is the marker that is assumed. The bounds are those of `lists.rt`.
 
+ghost use Rattle.std.specs.Prelude.{◌==◌, not};
 ghost use Rattle.reqs_c_reply.specs.Endings.{RepliesAs};
+ghost use Rattle.reqs_c_assuming.specs.Assumptions.{AssumptionEnds};
 ghost use Rattle.reqs_c_assuming.specs.Assuming.{SameEndsWhere, CoversEndsWhere, ConflictsEndWhere};
 
 use reqs_c_lists::Bounds;
 use reqs_c_reply::Reply;
 use reqs_json::Format;
 use std::alloc::Global;
+
+/// The text of the marker that `reqs` assumes with `--assume`, `--python` and, where `real` is not 0,
+/// `--assume-real`; empty where an empty marker, no specifiers and 0 assume nothing.
+#[unsafe(no_mangle)]
+pub extern "C" fn reqs_assumption(
+    alloc: Global,
+    marker: &[u8],
+    python: &[u8],
+    real: u64,
+    out: &mut [u8],
+) -> Reply
+    ensures { RepliesAs (AssumptionEnds marker.now python.now (not (real == 0))) out.old out.new result }
+{
+    reqs_c_assuming::assumption(alloc, marker, python, real != 0, out)
+}
 
 /// The answer of `reqs same` on two lists where a marker holds. No package may have more cases than `limit`.
 #[unsafe(no_mangle)]

@@ -1,1 +1,2 @@
 pub mod Assuming
+pub mod Assumptions

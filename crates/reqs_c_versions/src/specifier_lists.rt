@@ -19,7 +19,7 @@ use std::fmt::Write;
 /// # Errors
 ///
 /// How the call ends: refused at argument `input` for the first invalid specifier, or out of memory.
-pub(crate) fn read_list(alloc: Global, input: u32, bytes: &[u8]) -> Result<VersionSpecifiers, Ended>
+pub fn read_list(alloc: Global, input: u32, bytes: &[u8]) -> Result<VersionSpecifiers, Ended>
     ensures list { IfOk result (λ list. IsListIn bytes.now list) }
     ensures none { IfErr result (λ ended. EndsIn NoAnswer (RefusesList input bytes.now) (ending_of ended)) }
 {

@@ -12,7 +12,7 @@ use Rattle.pep508_formula.specs.Postfix.{Part}
 use Rattle.reqs_io_faults.specs.declared.bounds.Bounds.{Bounds}
 use Rattle.reqs_json.specs.declared.format.Format.{Format}
 use Rattle.reqs_json.specs.declared.format.Format.TheVariants.{Text, Json}
-use Rattle.reqs_assuming.specs.Conditions.{ReadsCondition}
+use Rattle.reqs_assuming.specs.Assumptions.{ReadsAssumption}
 use Rattle.reqs_command.specs.declared.request.Asked.{Asked}
 use Rattle.reqs_command.specs.declared.request.Asked.TheVariants.{Check, Matrix, Same, Covers}
 use Rattle.reqs_command.specs.declared.request.Asked.TheVariants.{Conflicts, Normal}
@@ -94,11 +94,14 @@ NamesFormat word Text = word ≢ codes "json"
 abbrev pub IsToldFormat : Found → Format → Type 0
 IsToldFormat found format = NamesFormat (text_at (first_value found (codes "format"))) format
 
--- the words ask for a strict command, or not
-pub record IsToldStrict (found : Found) (strict : Bool) : Type 0 where
-  pub unnamed : one_text found (codes "strict") ≡ None → strict ≡ false
-  pub named : one_text found (codes "strict") ≡ Some (codes "true") → strict ≡ true
-  pub other : one_text found (codes "strict") ≡ Some (codes "false") → strict ≡ false
+-- the words set a flag, or not
+pub record IsToldFlag (name : List ℕ) (found : Found) (flag : Bool) : Type 0 where
+  pub unnamed : one_text found name ≡ None → flag ≡ false
+  pub named : one_text found name ≡ Some (codes "true") → flag ≡ true
+  pub other : one_text found name ≡ Some (codes "false") → flag ≡ false
+
+abbrev pub IsToldStrict : Found → Bool → Type 0
+IsToldStrict = IsToldFlag (codes "strict")
 
 -- ---- bounds
 
@@ -135,10 +138,12 @@ pub record AreToldBounds (found : Found) (result : Option Bounds) : Type 0 where
 
 -- ---- the assumption
 
--- the condition is the one in the words, none if they have none; or this is what is wrong with it
-abbrev pub IsToldCondition : Option (List ℕ)
-    → Result (Option (List (Part ExpressionRecord))) (Pep508Error Verbatim VerbatimUrlError) → Type 0
-IsToldCondition None result = result ≡ Ok None
-IsToldCondition (Some text) (Ok (Some parts)) = ReadsCondition text (Ok parts)
-IsToldCondition (Some text) (Ok None) = ⊥
-IsToldCondition (Some text) (Err error) = ReadsCondition text (Err error)
+-- the condition is that of all that the words assume, none if they assume nothing; or this is what is wrong with
+-- it
+pub record IsToldCondition (found : Found)
+    (result : Result (Option (List (Part ExpressionRecord))) (Pep508Error Verbatim VerbatimUrlError))
+    : Type 0 where
+  pub real : Bool
+  pub real_told : IsToldFlag (codes "assume-real") found real
+  pub reads : ReadsAssumption (first_value found (codes "assume")) (first_value found (codes "python")) real
+      result

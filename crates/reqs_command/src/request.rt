@@ -12,7 +12,7 @@ use clap::{Arg, ArgAction, ArgMatches, Command, Error};
 use pep508_error::Pep508Error;
 use pep508_formula::MarkerFormula;
 use pep508_url::VerbatimUrl;
-use reqs_assuming::read_condition;
+use reqs_assuming::assumed_condition;
 use reqs_io_faults::Bounds;
 use reqs_json::Format;
 use std::alloc::{AllocError, Global};
@@ -181,17 +181,16 @@ fn bounds_from(nodes: Option<u64>, clauses: Option<u64>, cases: Option<u64>) -> 
 ///
 /// # Errors
 ///
-/// That of `reqs_assuming::read_condition` for a text that is no marker, or when memory runs out.
+/// That of `reqs_assuming::assumed_condition` for a text that is no marker or no list of specifiers, or when
+/// memory runs out.
 pub fn condition_of(
     alloc: Global,
     given: &ArgMatches<'_>,
 ) -> Result<Option<MarkerFormula>, Pep508Error<VerbatimUrl>>
-    ensures { IsToldCondition (first_value (found_of given.now) (codes "assume")) result }
+    ensures { IsToldCondition (found_of given.now) result }
 {
-    match given.get_str("assume") {
-        Some(text) => Ok(Some(read_condition(alloc, text)?)),
-        None => Ok(None),
-    }
+    let real = given.get_flag("assume-real");
+    assumed_condition(alloc, given.get_str("assume"), given.get_str("python"), real)
 }
 
 /// The limit that the words name, or the default.
@@ -369,14 +368,27 @@ fn with_clauses<'a>(alloc: Global, command: Command<'a>) -> Result<Command<'a>, 
     ))
 }
 
-/// A command with an option for an assumption.
+/// A command with the options that say which environments and extras count.
 fn with_assume<'a>(alloc: Global, command: Command<'a>) -> Result<Command<'a>, AllocError> {
-    command.arg(
-        Arg::new(alloc, "assume")
-            .long("assume")
-            .value_name("MARKER")
-            .help("Only environments and extras count for which this marker holds"),
-    )
+    command
+        .arg(
+            Arg::new(alloc, "assume")
+                .long("assume")
+                .value_name("MARKER")
+                .help("Only environments and extras count for which this marker holds"),
+        )?
+        .arg(
+            Arg::new(alloc, "python")
+                .long("python")
+                .value_name("SPECIFIERS")
+                .help("Only Python versions count that these accept, as >=3.9,<3.13"),
+        )?
+        .arg(
+            Arg::new(alloc, "assume-real")
+                .long("assume-real")
+                .help("Only systems count whose names go together, as in each real interpreter")
+                .action(ArgAction::SetTrue),
+        )
 }
 
 /// A command with an option that makes it strict.

@@ -2,7 +2,7 @@
 
 use crate::lists::{conflicts_of, related};
 use crate::native::{self, Format};
-use crate::{Bounds, Conflict, Covers, MarkerTree, Refused, Same};
+use crate::{Bounds, Conflict, Covers, MarkerTree, Refused, Same, VersionSpecifiers};
 
 /// A marker that is assumed, with the bounds of the calls on lists, made by [`Bounds::assuming`]. Each call is the
 /// function of its name, but only the environments and extras count for which the marker holds, as if each line's
@@ -22,6 +22,41 @@ use crate::{Bounds, Conflict, Covers, MarkerTree, Refused, Same};
 pub struct Assuming<'a> {
     bounds: Bounds,
     marker: &'a MarkerTree,
+}
+
+impl MarkerTree {
+    /// The marker that holds where all that is assumed does, as the options `--assume`, `--python` and `--assume-real`
+    /// of `reqs` join it: a marker; specifiers that accept `python_full_version`; and, if `real`, that `os_name`,
+    /// `sys_platform` and `platform_system` say together that it is Windows, Linux or macOS, or none of them says so, as
+    /// in `CPython`, `PyPy` and `GraalPy`. It always holds if nothing is assumed.
+    ///
+    /// ```
+    /// use fowlyore::{Bounds, MarkerTree, LIMIT};
+    ///
+    /// let real = MarkerTree::assumption(None, Some(&">=3.9,<3.13".parse()?), true)?;
+    /// let list = b"foo>=2 ; sys_platform == 'win32'\nfoo<2 ; os_name == 'posix'\n\
+    ///     bar>=2 ; python_version < '3.9'\nbar<2\n";
+    /// assert_eq!(Bounds::default().conflicts(list, LIMIT)?.len(), 2);
+    /// assert_eq!(Bounds::default().assuming(&real).conflicts(list, LIMIT)?, []);
+    /// # Ok::<(), fowlyore::Refused>(())
+    /// ```
+    ///
+    /// # Errors
+    ///
+    /// `Refused` for a specifier with `===`, which no marker has.
+    pub fn assumption(
+        marker: Option<&MarkerTree>,
+        python: Option<&VersionSpecifiers>,
+        real: bool,
+    ) -> Result<MarkerTree, Refused> {
+        let marker = marker.map_or("", MarkerTree::as_given);
+        let python = python.map_or_else(String::new, VersionSpecifiers::to_string);
+        let text = native::assumption(marker, &python, real)?;
+        if text.is_empty() {
+            return Ok(MarkerTree::default());
+        }
+        text.parse()
+    }
 }
 
 impl Bounds {

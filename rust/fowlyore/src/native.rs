@@ -101,6 +101,10 @@ extern "C" {
         requirements: *const u8, requirements_len: usize, nodes: usize, clauses: usize,
         out: *mut u8, out_len: usize,
     ) -> Reply;
+    fn reqs_assumption(
+        marker: *const u8, marker_len: usize, python: *const u8, python_len: usize,
+        real: u64, out: *mut u8, out_len: usize,
+    ) -> Reply;
     fn reqs_same_where(
         left: *const u8, left_len: usize, right: *const u8, right_len: usize,
         assumption: *const u8, assumption_len: usize,
@@ -509,6 +513,12 @@ pub(crate) fn conflicts(
         Format::Json => asked!(reqs_conflicts_json, room, requirements; limit, nodes, cases),
     };
     answer.map(Answer::text)
+}
+
+/// The text of the marker of what is assumed, empty if nothing is.
+pub(crate) fn assumption(marker: &str, python: &str, real: bool) -> Result<String, Refused> {
+    let room = ROOM + marker.len() + python.len();
+    asked!(reqs_assumption, room, marker, python; u64::from(real)).map(Answer::text)
 }
 
 pub(crate) fn same_where(
