@@ -101,7 +101,7 @@ sums_by nodes names side said q summaries (Some cases) of there is sums =
     some_summaries nodes side.lines (kept_under q side.table) q said summaries cases of.extras of.comparable
     (of.ranged q there) sums (of.some q cases there is)
 
-sums_of : (nodes : List NodeRecord) (names : List (List ℕ)) (side : Listed) (said : List LineRecord) (q : List ℕ)
+pub sums_of : (nodes : List NodeRecord) (names : List (List ℕ)) (side : Listed) (said : List LineRecord) (q : List ℕ)
     (summaries : List SummaryRecord) → SideOf nodes names side said → list_any (bytes_eq q) names ≡ true →
     Sums side q summaries → AreSummaries nodes (lines_of q said) summaries
 sums_of nodes names side said q summaries of there sums =

@@ -5,6 +5,7 @@
 mod comparing;
 mod equal_lines;
 pub mod laws;
+pub mod lent;
 mod pairing;
 mod refusing;
 mod settled;

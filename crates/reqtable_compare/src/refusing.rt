@@ -20,14 +20,19 @@ use std::alloc::{AllocError, Global};
 
 /// A line that can't be compared.
 #[derive(Clone, Copy)]
-pub(crate) struct Refused {
-    pub(crate) side: Side,
-    pub(crate) number: usize,
-    pub(crate) cause: LineCause,
+pub struct Refused {
+    pub side: Side,
+    /// The number of the line in its list.
+    pub number: usize,
+    pub cause: LineCause,
 }
 
 /// The first line that can't be compared, those of the left list first. Linear in the specifiers.
-pub(crate) fn first_refusal(
+///
+/// # Errors
+///
+/// `AllocError` when memory runs out.
+pub fn first_refusal(
     alloc: Global,
     left: &[Line],
     right: &[Line],

@@ -21,12 +21,12 @@ use version_ranges::Ranges;
 /// that they share, whether one of their specifiers names a pre-release or developmental release, and the
 /// tree that holds exactly where the case applies.
 #[derive(Drop)]
-pub(crate) struct Summary {
-    pub(crate) has_lines: bool,
-    pub(crate) extras: Vec<ExtraName>,
-    pub(crate) range: Option<Ranges<Version>>,
-    pub(crate) prerelease: bool,
-    pub(crate) tree: MarkerTree,
+pub struct Summary {
+    pub has_lines: bool,
+    pub extras: Vec<ExtraName>,
+    pub range: Option<Ranges<Version>>,
+    pub prerelease: bool,
+    pub tree: MarkerTree,
 }
 
 impl Summary {

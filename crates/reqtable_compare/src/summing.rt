@@ -24,7 +24,11 @@ use std::alloc::{AllocError, Global};
 ///
 /// A case of n lines needs O(n log m) steps to find them among m lines, O(n log n) comparisons of extras, and
 /// the time and memory of its range (`Table::range`).
-pub(crate) fn summaries(
+///
+/// # Errors
+///
+/// `AllocError` when memory runs out.
+pub fn summaries(
     alloc: Global,
     lines: &[Line],
     table: &Table,
