@@ -50,9 +50,9 @@ struct Place {
 
 /// How many cases each package of a list may have, and, if that is bounded, all packages of a list together.
 #[derive(Clone, Copy)]
-struct Bounds {
-    limit: u64,
-    in_all: Option<u64>,
+pub struct Bounds {
+    pub limit: u64,
+    pub in_all: Option<u64>,
 }
 
 /// Whether two lists require the same of each package under every valuation of markers, and so in every
@@ -225,8 +225,13 @@ fn compared_on(
     )
 }
 
-/// The table of some packages of one of two lists.
-fn side_table(
+/// The table of some packages of one of two lists, whose names are in the order of their bytes.
+///
+/// # Errors
+///
+/// `SameError::TooManyCases` and `SameError::TooManyCasesInAll` of this side beyond the bounds;
+/// `SameError::Memory` when memory runs out.
+pub fn side_table(
     alloc: Global,
     side: Side,
     requirements: &Requirements,
