@@ -6,7 +6,7 @@
 `Interner::conjunctions` counts what a caller asks for, so that a promise on how many there are binds all that a
 crate does. A call that isn't counted is public only since other crates of trees need it. Who makes a table of
 requirements gives them away, so that its answers come from the table; a copy of requirements, or a table of some
-that are lent, is for the calls on whole lists; answers on parsed lists are for a command that restricts them first, and ends of
+that are lent, is for the calls on whole lists; what cases require is for the key of a list; answers on parsed lists are for a command that restricts them first, and ends of
 the library's calls for those that assume a marker. LENT has such calls, and modules of them, each with the crate that has it and those that
 may name it; nobody may pass one on by `pub use`, and no other crate's source may name it. Nor may another import all of a crate that
 lends, or the crate itself, under its own or another name: its calls could be named there unseen. Fails too where one of
@@ -30,10 +30,11 @@ LENT = {
     "root_child": ("pep508_evaluation", ("pep508_tree_ref",)),
     "root_child_count": ("pep508_evaluation", ("pep508_tree_ref",)),
     "has_float": ("pep508_environment", ("reqs_io_faults",)),
-    "conjunction_of_all": ("pep508_conjunctions", ("pep508_marker_parser",)),
+    "conjunction_of_all": ("pep508_conjunctions", ("pep508_marker_parser", "reqtable_key")),
     "copied_packages": ("reqtable_requirements", ("reqtable_packages", "reqtable_list_tests")),
     "from_lines": ("reqtable_requirements", ("reqtable_assumption", "reqtable_list_tests")),
     "packages_table": ("reqtable_packages", ("reqtable_conflicts", "reqtable_compare")),
+    "reqtable_compare::lent": ("reqtable_compare", ("reqtable_key",)),
     "package_count": ("reqtable_table", ("reqs_answers", "reqtable_tests")),
     "row_among": ("reqtable_table", ("reqs_rows",)),
     "reqtable_table::lent": ("reqtable_table", ("reqs_answers", "reqs_rows", "reqtable_tests")),

@@ -8,6 +8,7 @@ pub use reqtable_cases::laws as cases;
 pub use reqtable_compare::laws as comparisons;
 pub use reqtable_conflicts::laws as contradictions;
 pub use reqtable_covers::laws as coverings;
+pub use reqtable_key::laws as keys;
 pub use reqtable_normal::laws as normal_texts;
 pub use reqtable_requirements::laws as requirement_lists;
 pub use reqtable_streaming::laws as selections;

@@ -47,6 +47,12 @@
 //! }
 //! ```
 //!
+//! What was found for a list can be kept for all lists that require the same, under its key:
+//!
+//! ```text
+//! let key = key(alloc, &requirements, &mut interner, 4096, None)?;
+//! ```
+//!
 //! A list can be restricted to the environments for which a marker holds, before it is compared:
 //!
 //! ```text
@@ -84,6 +90,7 @@ pub use reqtable_candidates::{
 pub use reqtable_compare::{LineCause, Same, SameError, Side, same, same_within};
 pub use reqtable_conflicts::{Conflict, conflicts, conflicts_within};
 pub use reqtable_covers::{Covers, covers, covers_within};
+pub use reqtable_key::key;
 pub use reqtable_normal::{NormalCause, NormalError, normal, normal_within};
 pub use reqtable_requirements::{Line, MarkedLine, MarkedLines, Requirements, RequirementsError};
 pub use reqtable_streaming::{Selection, judge_text};

@@ -9,6 +9,8 @@ mod copies;
 #[cfg(test)]
 mod covered;
 #[cfg(test)]
+mod keys;
+#[cfg(test)]
 mod lists;
 #[cfg(test)]
 mod twice;
