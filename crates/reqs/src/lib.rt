@@ -19,7 +19,9 @@
 
 pub use pep508_url::Vars;
 pub use reqs_answers::{check, check_strict, laws, matrix, matrix_strict, matrix_within};
-pub use reqs_assuming::{Terms, conflicts_where, covers_where, read_condition, same_where};
+pub use reqs_assuming::{
+    REAL, Terms, assumed_condition, assumption_text, conflicts_where, covers_where, same_where,
+};
 pub use reqs_io_faults::{
     Bounds, Excess, Input, JsonShape, RefusedCause, RefusedWord, RunFault, Status,
 };

@@ -22,7 +22,8 @@ use std::fmt::Write;
 
 /// A marker that holds in CPython, PyPy and GraalPy: `os_name`, `sys_platform` and `platform_system` say
 /// together that it is Windows, Linux or macOS, or none of them says so.
-pub const REAL: &str = "os_name == 'nt' and sys_platform == 'win32' and platform_system == 'Windows' \
+pub const REAL: &str =
+    "os_name == 'nt' and sys_platform == 'win32' and platform_system == 'Windows' \
     or os_name == 'posix' and sys_platform == 'linux' and platform_system == 'Linux' \
     or os_name == 'posix' and sys_platform == 'darwin' and platform_system == 'Darwin' \
     or os_name != 'nt' and sys_platform != 'win32' and sys_platform != 'linux' \
@@ -35,9 +36,9 @@ pub const REAL: &str = "os_name == 'nt' and sys_platform == 'win32' and platform
 ///
 /// # Errors
 ///
-/// That of `read_condition` for a marker that is none; the message and the place of the first piece that is
-/// no specifier; that of `read_condition` for the text of all that is assumed, where a specifier is one that
-/// no marker has, as `===3.9`; `Memory` when memory runs out.
+/// That of `pep508_marker_parser::parse_formula` for a marker that is none; the message and the place of the
+/// first piece that is no specifier; that of `parse_formula` for the text of all that is assumed, where a
+/// specifier is one that no marker has, as `===3.9`; `Memory` in it when memory runs out.
 pub fn assumed_condition(
     alloc: Global,
     marker: Option<&str>,

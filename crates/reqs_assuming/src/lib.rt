@@ -7,7 +7,7 @@
 //! an answer says of the lists themselves are the laws here and of `reqtable_assumption`.
 //!
 //! ```text
-//! let condition = read_condition(alloc, "sys_platform == 'linux'")?;
+//! let condition = assumed_condition(alloc, Some("sys_platform == 'linux'"), Some(">=3.9"), false)?;
 //! let terms = Terms { vars: &vars, condition: &condition, format: Format::Text, bounds: Bounds::none() };
 //! let status = same_where(alloc, &mut left, &mut right, 4096, &terms, &mut interner, &mut output)?;
 //! ```
@@ -23,7 +23,6 @@ mod terms;
 
 pub use assumption::{REAL, assumed_condition, assumption_text};
 pub use comparing::same_where;
-pub use condition::read_condition;
 pub use contradicting::conflicts_where;
 pub use covering::covers_where;
 pub use terms::Terms;

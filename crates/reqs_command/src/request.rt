@@ -190,7 +190,12 @@ pub fn condition_of(
     ensures { IsToldCondition (found_of given.now) result }
 {
     let real = given.get_flag("assume-real");
-    assumed_condition(alloc, given.get_str("assume"), given.get_str("python"), real)
+    assumed_condition(
+        alloc,
+        given.get_str("assume"),
+        given.get_str("python"),
+        real,
+    )
 }
 
 /// The limit that the words name, or the default.

@@ -408,7 +408,7 @@ module _ {Y : Type 0} (nodes : List NodeRecord) (names : List (List ℕ)) (side 
       let at : test (head, one.summary.tree) ≡ true = (λ i. own.passes i && holding i) in (
         v,
         of.1 v ∙ ap (λ ts. any_holds nodes ts v) (trees r.0) ∙ any_under nodes r.0 v entries
-        ∙ one.within test (passes one.name one.summary own.range test own.some own.is at),
+            ∙ one.within test (passes one.name one.summary own.range test own.some own.is at),
       )
 
   somewhere_all : (rs : List Region) → AllByRecursion (IsRegionOf nodes groups) rs →

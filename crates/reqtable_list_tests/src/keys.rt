@@ -81,8 +81,14 @@ fn lists_that_require_other_things_have_two(rt: HostRuntime) -> Result<(), Fail>
     assert_eq!(rt; compared(alloc, "foo\n", "bar\n")?.as_str(), "two");
     assert_eq!(rt; compared(alloc, "foo[a]\n", "foo[b]\n")?.as_str(), "two");
     assert_eq!(rt; compared(alloc, "foo>=1\n", "foo>1\n")?.as_str(), "two");
-    assert_eq!(rt; compared(alloc, "foo>=1.0\n", "foo>=1.0,!=0.9.dev0\n")?.as_str(), "two");
-    assert_eq!(rt; compared(alloc, "foo\n", "foo ; os_name == 'nt'\n")?.as_str(), "two");
+    assert_eq!(rt;
+        compared(alloc, "foo>=1.0\n", "foo>=1.0,!=0.9.dev0\n")?.as_str(),
+        "two"
+    );
+    assert_eq!(rt;
+        compared(alloc, "foo\n", "foo ; os_name == 'nt'\n")?.as_str(),
+        "two"
+    );
     Ok(())
 }
 
