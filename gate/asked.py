@@ -35,7 +35,7 @@ FACES = ("pep440_rs", "pep508_rs", "reqtable", "reqs", "reqs_io")
 # Of version_ranges the sets are public; their boundaries are lent to the crates of ranges and trees.
 SETS = ("Ranges", "RangeValue", "Iter")
 # Run by tests/cli.sh on the stored runs.
-RUN = ("reqs_io_faults", "reqs_json", "reqs_lists", "reqs_pieces", "reqs_rows", "reqs_answers", "reqs_messages", "reqs_command", "reqs_cli")
+RUN = ("reqs_io_faults", "reqs_json", "reqs_lists", "reqs_assuming", "reqs_pieces", "reqs_rows", "reqs_answers", "reqs_messages", "reqs_command", "reqs_cli")
 # Calls that need no question, and why.
 LENT = "lent to the crates of trees, and public only since its type is"
 UNASKED = {

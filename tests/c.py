@@ -523,6 +523,29 @@ def assumed(program):
             wants(f"run {run['name']}: {call} where nothing holds", is_so, none)
 
 
+# A marker that holds in each real interpreter, and what is assumed: a marker, specifiers, whether the interpreter is real, and the text.
+REAL = (b"os_name == 'nt' and sys_platform == 'win32' and platform_system == 'Windows'"
+        b" or os_name == 'posix' and sys_platform == 'linux' and platform_system == 'Linux'"
+        b" or os_name == 'posix' and sys_platform == 'darwin' and platform_system == 'Darwin'"
+        b" or os_name != 'nt' and sys_platform != 'win32' and sys_platform != 'linux' and sys_platform != 'darwin'"
+        b" and platform_system != 'Windows' and platform_system != 'Linux' and platform_system != 'Darwin'")
+ASSUMED = [
+    (b"", b"", 0, b""), (b"os_name=='nt'", b"", 0, b"os_name=='nt'"), (b"", b">=3.9", 0, b"python_full_version >= '3.9'"), (b"", b"", 1, REAL),
+    (b"", b"< 3.13, >= 3.9", 0, b"(python_full_version >= '3.9') and (python_full_version < '3.13')"),
+    (b"extra == 'a' or extra == 'b'", b"==3.*", 2, b"(extra == 'a' or extra == 'b') and (python_full_version == '3.*') and (" + REAL + b")"),
+]
+
+
+def assumptions(program):
+    """The text of what is assumed: what is refused of a marker before what is of specifiers."""
+    calls = [("assumption", [marker, python], real, ROOM) for marker, python, real, _ in ASSUMED]
+    for (marker, python, real, text), reply in zip(ASSUMED, made(program, calls)):
+        wants(f"what is assumed by {marker!r}, {python!r} and {real}", (reply.status, reply.text()) == (ANSWERED, text), reply)
+    refused = [([b"os_name", b"3.9"], 1, 7), ([b"", b">=3.9,3"], 2, 6), ([b"\xff", b"\xff"], 1, 0), ([b"", b"\xff"], 2, 0)]
+    for (texts, argument, start), reply in zip(refused, made(program, [("assumption", texts) for texts, *_ in refused])):
+        wants(f"no assumption: {texts!r}", (reply.status, reply.input, reply.start) == (REFUSED, argument, start), reply)
+
+
 def runs_as_json(program):
     """The stored runs: their calls for JSON end as those for text, and what is answered tells the text."""
     for lot in in_lots([*of_runs()]):
@@ -565,6 +588,7 @@ def kinds():
         ("ranges disjoint", [b">=1,!=1.5.*", b"~=1.5.2"]), ("subset", [b"~=1.2", b">=1.2,<2"]), ("subset", [b"~=1.2", b">=1,2"]),
         ("empty", [b">=1,!=1.5.*,<2"]), ("empty", [AT_END.encode()]),
         ("hold", [b"os_name == 'posix'\nx\n", where, b"a\n"]), ("order", [b"1.0.0.0.1", b"1.0.0.0.2+a"]),
+        ("assumption", [b"os_name == 'nt'", b">=3.9,<3.13"]), ("assumption", [b"os_name", b"3.9"]), ("assumption", [b"", b">=3,4"]),
     ]
 
 
@@ -691,6 +715,7 @@ def main(words):
     runs(shared)
     runs_as_json(shared)
     assumed(shared)
+    assumptions(shared)
     rooms(shared)
     documented()
     refusals(shared, refuse)

@@ -5,7 +5,7 @@ import struct
 CALLS = ("check", "matrix", "same", "covers", "conflicts", "normal", "same where", "covers where", "conflicts where",
          "check json", "matrix json", "same json", "covers json", "conflicts json", "normal json", "same where json", "covers where json",
          "conflicts where json", "version", "key", "order", "specifiers", "take", "ranges disjoint", "subset", "empty",
-         "requirement", "checked", "marker", "marker key", "truth", "disjoint", "implies", "negated", "python", "extras", "hold", "abi")
+         "requirement", "checked", "marker", "marker key", "truth", "disjoint", "implies", "negated", "python", "extras", "hold", "assumption", "abi")
 
 
 # What bounds no number of nodes, clauses or cases.

@@ -6,7 +6,7 @@ enum {
     CHECK, MATRIX, SAME, COVERS, CONFLICTS, NORMAL, SAME_WHERE, COVERS_WHERE, CONFLICTS_WHERE,
     CHECK_JSON, MATRIX_JSON, SAME_JSON, COVERS_JSON, CONFLICTS_JSON, NORMAL_JSON, SAME_WHERE_JSON, COVERS_WHERE_JSON, CONFLICTS_WHERE_JSON,
     VERSION, KEY, ORDER, SPECIFIERS, TAKE, RANGES_DISJOINT, SUBSET, EMPTY, REQUIREMENT, CHECKED, MARKER, MARKER_KEY, TRUTH, DISJOINT, IMPLIES,
-    NEGATED, PYTHON, EXTRAS, HOLD, ABI,
+    NEGATED, PYTHON, EXTRAS, HOLD, ASSUMPTION, ABI,
     CALLS
 };
 
@@ -100,6 +100,8 @@ static reqs_reply made(uint64_t which, const uint8_t *const *text, const uint64_
         return reqs_marker_simplify_extras(T(0), T(1), most->nodes, most->clauses, out, room);
     case HOLD:
         return reqs_markers_hold(T(0), T(1), T(2), out, room);
+    case ASSUMPTION:
+        return reqs_assumption(T(0), T(1), most->limit, out, room);
     case ABI:
         return number(reqs_abi());
     default:

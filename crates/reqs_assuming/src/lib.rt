@@ -7,9 +7,10 @@
 //! an answer says of the lists themselves are the laws here and of `reqtable_assumption`.
 //!
 //! ```text
-//! let condition = assumed_condition(alloc, Some("sys_platform == 'linux'"), Some(">=3.9"), false)?;
-//! let terms = Terms { vars: &vars, condition: &condition, format: Format::Text, bounds: Bounds::none() };
-//! let status = same_where(alloc, &mut left, &mut right, 4096, &terms, &mut interner, &mut output)?;
+//! if let Some(condition) = &assumed_condition(alloc, Some("sys_platform == 'linux'"), None, false)? {
+//!     let terms = Terms { vars: &vars, condition, format: Format::Text, bounds: Bounds::none() };
+//!     let status = same_where(alloc, &mut left, &mut right, 4096, &terms, &mut interner, &mut output)?;
+//! }
 //! ```
 
 mod assumed;
