@@ -18,7 +18,7 @@ use Rattle.pep508_diagram.specs.Text.{text_cmp}
 use Rattle.pep508_diagram.specs.Question.{Valuation, truth, IsCanonical}
 use Rattle.pep508_marker_key.specs.Key.{diagram_key}
 use Rattle.pep508_marker_key.specs.Told.{TellApart, listed_bytes}
-use Rattle.pep508_marker_key.proofs.Apart.{texts_apart, then_apart, listed_apart, less_not_equal, greater_not_equal}
+use Rattle.pep508_marker_key.proofs.Apart.{texts_apart, then_apart, listed_apart}
 use Rattle.pep508_marker_key.proofs.OneKey.{one_key}
 use Rattle.pep508_requirement_text.specs.FrontReading.{Front}
 use Rattle.reqtable_answer.proofs.Tests.{same_bytes as same_names}
@@ -27,7 +27,7 @@ use Rattle.reqtable_cases.specs.Requires.{RequireAlike, RequireTheSame, AskAlike
 use Rattle.reqtable_key.specs.Heads.{IsHead}
 use Rattle.reqtable_key.specs.Keys.{Region, is_there, Requires, AreRegions, IsToldIn, region_bytes, IsKeyOf}
 use Rattle.reqtable_key.specs.Keys.{OneKeyOfLists}
-use Rattle.reqtable_key.proofs.Told.{head_of_one, one_head}
+use Rattle.reqtable_key.proofs.Told.{head_of_one, one_head, less_not_equal, greater_not_equal}
 
 -- ---- regions as bytes
 

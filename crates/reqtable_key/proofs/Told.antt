@@ -19,7 +19,6 @@ use Rattle.pep440_key.specs.Key.{component_bytes, version_bytes}
 use Rattle.pep508_diagram.specs.Text.{text_cmp}
 use Rattle.pep508_marker_key.specs.Told.{TellApart, listed_bytes}
 use Rattle.pep508_marker_key.proofs.Apart.{heads, tails, texts_apart, versions_apart, listed_apart, same_bytes}
-use Rattle.pep508_marker_key.proofs.Apart.{less_not_equal, greater_not_equal}
 use Rattle.pep508_requirement_text.specs.FrontReading.{Front}
 use Rattle.reqtable_answer.specs.Asks.{has_extra, names_prerelease}
 use Rattle.reqtable_answer.proofs.OneAnswer.{same_texts}
@@ -29,6 +28,12 @@ use Rattle.reqtable_key.specs.Heads.{point_bytes, flag_bytes, head_bytes, IsHead
 
 abbrev Range : Type 0
 Range = List (Point VersionRecord)
+
+pub less_not_equal : Less ≡ Equal → ⊥
+less_not_equal e = absurd (cc)
+
+pub greater_not_equal : Greater ≡ Equal → ⊥
+greater_not_equal e = absurd (cc)
 
 -- ---- points
 

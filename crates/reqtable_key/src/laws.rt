@@ -3,7 +3,6 @@
 ghost use Rattle.reqtable_key.specs.Keys.{OneKeyOfLists};
 
 /// Keys of lists are the same exactly where the lists require the same, as `same` compares them.
-#[tactic(auto, using(crate::proofs::Law::one_key_of_lists))]
 pub fn one_key_of_lists()
     ensures { OneKeyOfLists }
 {}
