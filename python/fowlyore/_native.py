@@ -543,24 +543,24 @@ def assumption(marker: bytes, python: bytes, real: bool) -> str:
     return _assumption(marker, python, numbers=(int(real),), size=_size_for(marker, python)).decode()
 
 
-# The same where the marker `assumption` holds.
+# These answer only where the marker `assumption` holds.
 
 
 def same_where(
     left: bytes, right: bytes, assumption: bytes, limit: int, nodes: int, clauses: int, cases: int
 ) -> str:
-    """What `reqs same` prints."""
+    """What `reqs same --assume` prints."""
     return _same_where(left, right, assumption, numbers=(limit, nodes, clauses, cases)).decode()
 
 
 def covers_where(
     lock: bytes, requirements: bytes, assumption: bytes, limit: int, nodes: int, clauses: int, cases: int
 ) -> str:
-    """What `reqs covers` prints."""
+    """What `reqs covers --assume` prints."""
     numbers = limit, nodes, clauses, cases
     return _covers_where(lock, requirements, assumption, numbers=numbers, size=_size_for(requirements)).decode()
 
 
 def conflicts_where(requirements: bytes, assumption: bytes, limit: int, nodes: int, cases: int) -> str:
-    """What `reqs conflicts` prints."""
+    """What `reqs conflicts --assume` prints."""
     return _conflicts_where(requirements, assumption, numbers=(limit, nodes, cases), size=_size_for(requirements)).decode()

@@ -453,7 +453,7 @@ def refused(at: Located, why: str, name: str = "requirements") -> InvalidInput:
 
 
 def unread(place: Place, why: str, name: str = "requirements", text: Optional[str] = None) -> InvalidInput:
-    """The error of a place in a file, or of the file as a whole; `text` is what stands there, where it is told."""
+    """The error of a place in a file, or of the file as a whole; `text` is what stands there, where it is known."""
     front = f"{place.within}: " if place.within else ""
     return InvalidInput(
         f"{name}: {front}{why}", input=name, path=place.path, text=text, line=place.line, entry=place.entry

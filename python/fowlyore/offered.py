@@ -85,7 +85,7 @@ def wheelhouse(
     tags: Optional[Iterable[object]] = None,
 ) -> List[Candidate]:
     """Name and version of each wheel and source archive in a folder, by their files' names (PEP 427, PEP
-    625), in the order of these. Of files that are no candidates each is told in `left_out`.
+    625), in the order of these. Of files that are no candidates each is added to `left_out`.
 
     `tags` are those of an interpreter, as `packaging.tags.sys_tags()` or their texts: wheels without any of
     these aren't candidates. `python` is its version: files of which the metadata ask for another one aren't,

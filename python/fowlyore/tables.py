@@ -92,7 +92,7 @@ def _printable(text: str) -> str:
 
 
 def matrix_table(grid: Grid, width: Optional[int] = None, is_coloured: bool = False) -> Iterator[str]:
-    """The lines of a table, of packages by environments. A `*` stands behind what differs from what most
+    """The lines of a table, of packages by environments. A `*` follows what differs from what most
     columns have. Where a width is given, columns that don't fit stand in further tables below.
 
     >>> rows = [[Row("foo", (), "1")], [Row("foo", (), "1")], [Row("foo", (), "none")]]
