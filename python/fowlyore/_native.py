@@ -68,7 +68,7 @@ class TooManyClauses(Fault):
     """A call that would write a marker of more clauses than it may make."""
 
 
-# What is said of a call that is refused for a bound, behind the place in a list where it has one.
+# What is said of a call that is refused for a bound, after the place in a list where it has one.
 _BEYOND = re.compile(rb"(?:[a-z]+: line [0-9]+: )?more than [0-9]+ (nodes|clauses)(?: for [a-z0-9-]+)?")
 _KINDS = {b"nodes": TooManyNodes, b"clauses": TooManyClauses}
 
@@ -211,7 +211,7 @@ def instead_of(name: str, written: Any) -> Any:
 def _call(
     name: str, texts: int, numbers: int = 0, short: bool = False, linear: bool = False, long: Optional[int] = None
 ) -> Callable[..., bytes]:
-    """A function of the library, which is given so many texts, and as `numbers` so many numbers if there are any, and
+    """A function of the library, which is given `texts` texts, and as `numbers` that many numbers if there are any, and
     returns its answer. `size` may be given too: the room for the answer at first, which is enough for most.
 
     `short` is one on single versions and specifiers, and `linear` one that takes time linear in its texts. From `long` bytes

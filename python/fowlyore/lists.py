@@ -443,7 +443,7 @@ def _told_where(message: str, name: str, at: Located) -> InvalidInput:
 
 
 def refused(at: Located, why: str, name: str = "requirements") -> InvalidInput:
-    """The error of a part of a line, told as the library tells one."""
+    """The error of a part of a line, in the words of the library."""
     start, end = (len(_native.encoded(at.text[:it])) for it in (at.start, at.end))
     marks = " " * columns(at.text[: at.start]) + "^" * max(1, columns(at.text[at.start : at.end]))
     return InvalidInput(

@@ -56,8 +56,8 @@ class Grid:
 
 
 def _line(name: str, rows: Sequence[Optional[Row]]) -> Tuple[str, Tuple[str, ...]]:
-    """A package with what its cells are. Extras that are the same in all of its rows stand beside the
-    name."""
+    """A package with what its cells are. Extras that are the same in all of its rows stand next to
+    the name."""
     extras = {it.extras for it in rows if it is not None}
     if len(extras) == 1:
         common = ",".join(next(iter(extras)))
