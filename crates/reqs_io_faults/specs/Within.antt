@@ -29,7 +29,7 @@ abbrev pub Bounded : {X : Type 0} → (Result X RunFault → Type 0) → Type 0 
 Bounded Plain Fits Passes (Ok answer) = Plain (Ok answer) × Fits
 Bounded Plain Fits Passes (Err fault) = Plain (Err fault) ⊎ Passes fault
 
--- the result of reading a list of requirements, with these nodes afterwards, of which there may be `most`
+-- the result of reading a list of requirements, with at most `most` nodes afterwards, these
 abbrev pub LinesWithin : Variables → Input → ℕ → List NodeRecord → List ℕ → Result (List Line) RunFault
     → Type 0
 LinesWithin vars input most nodes bytes =
