@@ -154,7 +154,7 @@ FAULTS = [
           "extras and candidate text of the written grammars that is short, `check`"),
     Fault("another figure in README.md", None, FIGURES, "README.md", "\nOn slow cores (", "\nOn slow cores (1"),
     Fault("a figure in README.md that nobody measured", None, FIGURES,
-          "README.md", "`./try` is the toolchain's unproved run", "`./try`, 30 times as fast as `./reqs`, is the toolchain's unproved run"),
+          "README.md", "`./try` runs the program unproved", "`./try`, 30 times as fast as `./reqs`, runs the program unproved"),
     Fault("a figure that README.md doesn't state", None, FIGURES, "bench/figures.json",
           '  "sentences": [\n', '  "sentences": [\n    {"page": "README.md", "said": "it takes {building.answer} here"},\n'),
     Fault("a figure of a command that is none", None, FIGURES, "bench/figures.json", "bench/building.py answer", "bench/answer.py"),

@@ -27,7 +27,7 @@
  * No call ends the process, throws, blocks, reads or writes a file or reads the process's environment.
  * `${NAME}` in a URL is not replaced; a relative path in place of a URL is resolved against `/`.
  *
- * Each call is proved to return and write what docs/C.md documents; that this header is what the library
+ * Each call is proved to meet the definition that docs/C.md names; that this header is what the library
  * exports is tested.
  */
 #ifndef REQS_H
@@ -46,7 +46,7 @@ extern "C" {
 enum reqs_status {
     REQS_ANSWERED = 0,
     REQS_DIFFERENT = 1, /* reqs_same: the lists don't require the same; reqs_covers: the first doesn't cover the
-                         * second; so for their calls with _where and _json */
+                         * second; likewise with _where and _json */
     REQS_REFUSED = 2,   /* an argument is refused; out has the reason */
     REQS_MEMORY = 3     /* out of memory; length is 0 */
 };

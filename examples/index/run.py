@@ -203,7 +203,7 @@ def words_of() -> argparse.Namespace:
     by.add_argument("--workers", type=number, default=0, metavar="N", help="so many processes on this machine")
     by.add_argument("--scheduler", metavar="ADDRESS", help="a scheduler of Dask, as tcp://10.0.0.1:8786")
     words.add_argument("--without-dask", action="store_true", help="processes of concurrent.futures in any case")
-    of_extra, of_limit = "an extra that is asked for; may be repeated", "how many cases a package may have (%(default)s)"
+    of_extra, of_limit = "an extra that is requested; may be repeated", "how many cases a package may have (%(default)s)"
     words.add_argument("--extra", action="append", default=[], metavar="NAME", help=of_extra)
     words.add_argument("--limit", type=limit_of, default=4096, metavar="N", help=of_limit)
     return words.parse_args()

@@ -84,7 +84,7 @@ def discard(stream: Any) -> None:
 
 
 def listing(word: str, groups: List[str]) -> Listing:
-    """A list that is named. What is left out of it is told."""
+    """The list of this name; reports what is left out of it."""
     given = source(word, lambda file: read_list(word, file))
     if isinstance(given, bytes) and groups:
         refuse_groups(word)
@@ -99,7 +99,7 @@ def tell_left_out(left_out: Iterable[LeftOut]) -> None:
 
 
 def tell_assumed(found: Listing) -> Listing:
-    """Tells what a list's file says of environments, where none is held against it; of single lines once."""
+    """Reports what a list's file says of environments where that is ignored; for single lines once."""
     of_lines = [it for it in found.assumed if it.line]
     for it in (it for it in found.assumed if not it.line or it is of_lines[0]):
         others = ", nor is that of other lines" if it.line and of_lines[1:] else ""
@@ -108,7 +108,7 @@ def tell_assumed(found: Listing) -> Listing:
 
 
 def asked(words: argparse.Namespace) -> Listing:
-    """The list of `check` and `matrix`. Extras that its file doesn't define are told."""
+    """The list of `check` and `matrix`; reports extras that its file doesn't define."""
     found = listing(words.requirements, words.group)
     for it in words.extra:
         if found.provided_extras is not None and normal_name(it) not in found.provided_extras:
@@ -224,7 +224,7 @@ def add_limit(it: argparse.ArgumentParser, default: Optional[int] = LIMIT, witho
 
 
 def add_check(commands: Any) -> None:
-    about = "print the greatest candidate of each package that a list asks for, or none, or direct for a URL"
+    about = "print the highest candidate of each package that a list requires, or none, or direct for a URL"
     it = add(commands, "check", about)
     it.add_argument("requirements", metavar="FILE", help="the list")
     environment = it.add_mutually_exclusive_group()
@@ -232,7 +232,7 @@ def add_check(commands: Any) -> None:
     environment.add_argument("--environment", metavar="JSON", help=of_values)
     environment.add_argument("--python-version", metavar="VERSION", help="this interpreter's values, but of another version")
     add_candidates(it)
-    it.add_argument("--explain", action="store_true", help="say below each none which lines refuse the greatest candidates")
+    it.add_argument("--explain", action="store_true", help="say below each none which lines refuse the highest candidates")
     it.add_argument("--strict", action="store_true", help="status 4 where a row is none")
 
 
@@ -255,7 +255,7 @@ def add_candidates(it: argparse.ArgumentParser) -> None:
     it.add_argument("--ignore-requires-python", action="store_true", help=of_python)
     of_format = "as text for programs, a table for people, or a page of HTML (%(default)s)"
     it.add_argument("--format", choices=("text", "table", "html"), default="text", help=of_format)
-    it.add_argument("--extra", action="append", default=[], metavar="NAME", help="an extra that is asked for; may be repeated")
+    it.add_argument("--extra", action="append", default=[], metavar="NAME", help="an extra that is requested; may be repeated")
 
 
 # Why files aren't held against an interpreter, and why wheels aren't by their tags.
@@ -294,7 +294,7 @@ def is_of_files(word: Optional[str]) -> bool:
 
 
 def candidates_of(words: argparse.Namespace, interpreter: Interpreter) -> Any:
-    """The candidates that are named, or those that are installed; what of these is no candidate is told."""
+    """The named or else the installed candidates; reports what is no candidate."""
     if not words.wheelhouse and words.candidates is None:
         return installed_told()
     told: List[LeftOut] = []
@@ -312,7 +312,7 @@ def candidates_of(words: argparse.Namespace, interpreter: Interpreter) -> Any:
 
 
 def installed_told() -> Any:
-    """What is installed; what of this is no candidate is told."""
+    """What is installed; reports what of this is no candidate."""
     left_out: List[str] = []
     found = installed(left_out)
     for it in left_out:
@@ -350,7 +350,7 @@ def run_check(words: argparse.Namespace) -> int:
 
 
 def show_rows(words: argparse.Namespace, rows: List[Row], explanations: List[Explanation]) -> None:
-    """The answer of `check`, in the format that is asked for."""
+    """The answer of `check`, in the requested format."""
     if words.format == "html":
         show(tables.check_page(rows, explanations, f"check {words.requirements}"))
     elif words.format == "table":

@@ -97,15 +97,15 @@ def _number(most: Optional[int]) -> int:
 
 
 def most_nodes(given: Most = USUAL) -> int:
-    """How many nodes a call may make, as the library is told it."""
+    """How many nodes a call may make, as the number that the library gets."""
     return _number(bounds.nodes if isinstance(given, Usual) else _checked(given))
 
 
 def most_clauses(given: Most = USUAL) -> int:
-    """How many clauses a call may make, as the library is told it."""
+    """How many clauses a call may make, as the number that the library gets."""
     return _number(bounds.clauses if isinstance(given, Usual) else _checked(given))
 
 
 def most_cases(given: Most = USUAL) -> int:
-    """How many cases a call may make in all, as the library is told it."""
+    """How many cases a call may make in all, as the number that the library gets."""
     return _number(bounds.cases if isinstance(given, Usual) else _checked(given))

@@ -8,7 +8,7 @@ LONGEST_KEPT = 1 << 14
 
 
 def keep(kept: Dict[Any, Any], asked: Any, answer: Any, most: int, size: int) -> None:
-    """Keeps an answer by what was asked, in which there are about so many characters. If there are `most` it drops them first.
+    """Keeps an answer under its question, of about `size` characters; drops all kept ones first if there are `most`.
 
     >>> squares = {}
     >>> for it in range(5):

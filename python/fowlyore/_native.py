@@ -68,7 +68,7 @@ class TooManyClauses(Fault):
     """A call that would write a marker of more clauses than it may make."""
 
 
-# What is said of a call that is refused for a bound, behind the place in a list where it has one.
+# What is said of a call that is refused for a bound, after the place in a list where it has one.
 _BEYOND = re.compile(rb"(?:[a-z]+: line [0-9]+: )?more than [0-9]+ (nodes|clauses)(?: for [a-z0-9-]+)?")
 _KINDS = {b"nodes": TooManyNodes, b"clauses": TooManyClauses}
 
@@ -211,7 +211,7 @@ def instead_of(name: str, written: Any) -> Any:
 def _call(
     name: str, texts: int, numbers: int = 0, short: bool = False, linear: bool = False, long: Optional[int] = None
 ) -> Callable[..., bytes]:
-    """A function of the library, which is given so many texts, and as `numbers` so many numbers if there are any, and
+    """A function of the library, which is given `texts` texts, and as `numbers` that many numbers if there are any, and
     returns its answer. `size` may be given too: the room for the answer at first, which is enough for most.
 
     `short` is one on single versions and specifiers, and `linear` one that takes time linear in its texts. From `long` bytes
@@ -543,24 +543,24 @@ def assumption(marker: bytes, python: bytes, real: bool) -> str:
     return _assumption(marker, python, numbers=(int(real),), size=_size_for(marker, python)).decode()
 
 
-# The same where the marker `assumption` holds.
+# These answer only where the marker `assumption` holds.
 
 
 def same_where(
     left: bytes, right: bytes, assumption: bytes, limit: int, nodes: int, clauses: int, cases: int
 ) -> str:
-    """What `reqs same` prints."""
+    """What `reqs same --assume` prints."""
     return _same_where(left, right, assumption, numbers=(limit, nodes, clauses, cases)).decode()
 
 
 def covers_where(
     lock: bytes, requirements: bytes, assumption: bytes, limit: int, nodes: int, clauses: int, cases: int
 ) -> str:
-    """What `reqs covers` prints."""
+    """What `reqs covers --assume` prints."""
     numbers = limit, nodes, clauses, cases
     return _covers_where(lock, requirements, assumption, numbers=numbers, size=_size_for(requirements)).decode()
 
 
 def conflicts_where(requirements: bytes, assumption: bytes, limit: int, nodes: int, cases: int) -> str:
-    """What `reqs conflicts` prints."""
+    """What `reqs conflicts --assume` prints."""
     return _conflicts_where(requirements, assumption, numbers=(limit, nodes, cases), size=_size_for(requirements)).decode()

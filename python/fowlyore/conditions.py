@@ -63,7 +63,7 @@ def of_lock(marker: str, groups: FrozenSet[str]) -> Tuple[str, str]:
             continue
         front, length = marker[at : found.start()], len(found[0])
         is_in = found["sign"] == "in"
-        # (a quote may stand at once behind a word)
+        # (a quote may follow a word at once)
         judged += front, " " if front[-1:].isalnum() else ""
         if found["set"] == "extras":
             sign = "==" if is_in else "!="

@@ -64,8 +64,8 @@ def _fields(path: str, data: bytes) -> Iterator[_Field]:
 
 def read_metadata(path: str, data: bytes, requires: Optional[bytes] = None, is_source: bool = False) -> Listing:
     """The list of core metadata, which are its fields `Requires-Dist` (Core metadata specifications).
-    `requires` is what a file `requires.txt` has beside it, which counts where no such field is there;
-    `is_source` says that it is a source archive's. What is dynamic (PEP 643) is told, but of a `METADATA`,
+    `requires` is what a file `requires.txt` next to it has, which counts where no such field is there;
+    `is_source` says that it is a source archive's. What is dynamic (PEP 643) is reported, but of a `METADATA`,
     which a build has made.
 
     Raises `InvalidInput` for what can't be read, by its line.

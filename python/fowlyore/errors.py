@@ -61,8 +61,8 @@ def shown(text: str) -> str:
 
 
 def told(value: object) -> str:
-    """How a value is told that was given in place of another one. It may be a number of too many digits for a text, or nest too
-    deep."""
+    """How a refused value is shown: its `repr`, or its type where that fails, as for a number of too many digits or a value
+    that nests too deep."""
     try:
         return repr(value)
     except Exception:

@@ -42,7 +42,7 @@ class Place:
         return f"{self.path}: {self.within}" if self.within else self.path
 
     def beside(self, path: str) -> str:
-        """The place in a few characters, as a file of this path would be told it."""
+        """The place in a few characters, without the path if that is this one."""
         if self.path == path and self.within:
             return self.entry or str(self.line)
         return f"{self.path}:{self.entry or self.line}" if self.within else self.path

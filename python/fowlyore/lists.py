@@ -443,7 +443,7 @@ def _told_where(message: str, name: str, at: Located) -> InvalidInput:
 
 
 def refused(at: Located, why: str, name: str = "requirements") -> InvalidInput:
-    """The error of a part of a line, told as the library tells one."""
+    """The error of a part of a line, in the words of the library."""
     start, end = (len(_native.encoded(at.text[:it])) for it in (at.start, at.end))
     marks = " " * columns(at.text[: at.start]) + "^" * max(1, columns(at.text[at.start : at.end]))
     return InvalidInput(
@@ -453,7 +453,7 @@ def refused(at: Located, why: str, name: str = "requirements") -> InvalidInput:
 
 
 def unread(place: Place, why: str, name: str = "requirements", text: Optional[str] = None) -> InvalidInput:
-    """The error of a place in a file, or of the file as a whole; `text` is what stands there, where it is told."""
+    """The error of a place in a file, or of the file as a whole; `text` is what stands there, where it is known."""
     front = f"{place.within}: " if place.within else ""
     return InvalidInput(
         f"{name}: {front}{why}", input=name, path=place.path, text=text, line=place.line, entry=place.entry

@@ -85,7 +85,7 @@ def wheelhouse(
     tags: Optional[Iterable[object]] = None,
 ) -> List[Candidate]:
     """Name and version of each wheel and source archive in a folder, by their files' names (PEP 427, PEP
-    625), in the order of these. Of files that are no candidates each is told in `left_out`.
+    625), in the order of these. Of files that are no candidates each is added to `left_out`.
 
     `tags` are those of an interpreter, as `packaging.tags.sys_tags()` or their texts: wheels without any of
     these aren't candidates. `python` is its version: files of which the metadata ask for another one aren't,
@@ -119,7 +119,7 @@ def wheelhouse(
 
 
 def _python_of(path: str, left_out: LeftOuts) -> Optional[str]:
-    """The `Requires-Python` of a file, or nothing where it has none. Where it can't be read that is told."""
+    """The `Requires-Python` of a file, or nothing where it has none. Where it can't be read that is reported."""
     if not path.endswith((".whl", ".tar.gz")):
         return None
     try:
@@ -148,7 +148,7 @@ def _candidate_of(filename: str) -> Tuple[Optional[Candidate], str]:
 
 def _splits(text: str) -> List[Candidate]:
     """The ways in which a text is a name, a `-` and a version."""
-    # (behind the name a version seldom has more)
+    # (after the name a version seldom has more)
     dashes = [it.start() for it in re.finditer("-", text)][-8:]
     pairs = ((text[:at], text[at + 1 :]) for at in dashes)
     return [(name, version) for name, version in pairs if is_version(version) and normal_name(name)]
@@ -164,8 +164,8 @@ def read_candidates(
     """The candidates that a file has, for the functions on lists: of a folder those of `wheelhouse`, of
     `pylock.toml` or `pylock.NAME.toml` its packages (PEP 751), of a name that ends in `.json` those of a page
     of a package index (PEP 691), or of an array of pages, of which `python` and `tags` leave out files as in
-    a folder. Any other file is a list of candidates, and its path is the answer. `left_out` is told what is
-    left out.
+    a folder. Any other file is a list of candidates, and its path is the answer. What is left out is added to
+    `left_out`.
 
     Raises `InvalidInput` for what can't be read, by its table or member, `InvalidVersion` for a `python` that is
     no version, and `OSError` where the file can't be read.
@@ -206,7 +206,7 @@ def _of_page(path: str, data: bytes, left_out: LeftOuts, interpreter: _Interpret
 
 
 class _Page:
-    """The page of a package; `front` stands before its members in what is told."""
+    """The page of a package; `front` stands before its members in what is reported."""
 
     def __init__(self, path: str, front: str, page: Any, left_out: LeftOuts, interpreter: _Interpreter) -> None:
         self.path, self.front, self.left_out, self.interpreter = path, front, left_out, interpreter

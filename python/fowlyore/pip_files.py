@@ -131,7 +131,7 @@ class _Part(NamedTuple):
 
 
 def _parts_of(lines: List[str], at: int) -> Tuple[List[_Part], int]:
-    """The parts of the line that begins at an index, and the index behind it."""
+    """The parts of the line that begins at an index, and the index after it."""
     parts: List[_Part] = []
     while at < len(lines):
         line, is_last = lines[at], True
@@ -371,7 +371,7 @@ class _Reading:
         self.left_out.append(LeftOut(what, Place(file.path, number), why))
 
     def _is_left_out(self, file: _File, number: int, text: str, given: str) -> bool:
-        """Whether a line is a path, an archive or a URL without a name, which is told then."""
+        """Whether a line is a path, an archive or a URL without a name, which is reported then."""
         if not _UNNAMED.match(text) and not ("/" in text and os.path.isdir(_BEHIND_PATH.split(text, 1)[0].rstrip())):
             return False
         try:
@@ -399,7 +399,7 @@ class _Reading:
         return expanded.strip()
 
     def _without_options(self, file: _File, number: int, text: str) -> str:
-        """A line without its options, of which those are followed that name files, and others are told."""
+        """A line without its options, of which those are followed that name files, and others are reported."""
         at = 0 if text.startswith("-") else text.find(" -") + 1
         if at and _HASHES.fullmatch(text, at):
             self._tell_once("--hash", file, number)
@@ -458,7 +458,7 @@ class _Reading:
         return ""
 
     def _include(self, file: _File, number: int, text: str, option: str, named: str) -> None:
-        """Reads the file that an option names, but where it was read already, which is told. Raises
+        """Reads the file that an option names, but where it was read already, which is reported. Raises
         `InvalidInput` for one that is being read, or can't be read, at its place in the line."""
         if _URL.match(named):
             self._leave_out(f"{option} of a URL", file, number, "nothing is fetched")
@@ -470,7 +470,7 @@ class _Reading:
         except ValueError:  # of a NUL, or of half a surrogate pair
             raise refused(where, f"{path!r} is no path") from None
         except OSError as error:
-            # (making a key of it takes time that is quadratic in its length; of others it is told below)
+            # (making a key of it takes time that is quadratic in its length; of others it is reported below)
             if error.errno == errno.ENAMETOOLONG:
                 raise refused(where, f"{path}: {error.strerror}") from None
         key = _key_of(path)

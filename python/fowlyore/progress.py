@@ -1,4 +1,4 @@
-"""How far long work is, on a terminal's standard error."""
+"""The progress of long work, on a terminal's standard error."""
 
 import os
 import sys
@@ -44,7 +44,7 @@ class Progress:
         self._done += 1
 
     def line(self, seconds: float) -> str:
-        """What is shown after so many seconds."""
+        """What is shown after `seconds`."""
         of_steps = f"{self._done} of {self._count}, " if self._count else ""
         return f"{shown(self._what)}: {of_steps}{seconds:.0f} s"
 

@@ -86,7 +86,7 @@ class Lines:
 
     def _follow(self, extras: Optional[Sequence[str]]) -> None:
         """Has the lines of an extra apply too where the project asks for that extra itself. Where that can't
-        be said by markers, and of extras that aren't there, it is told."""
+        be said by markers, and of extras that aren't there, it is reported."""
         own = OwnExtras((extra, it.marker) for it in self._references for extra in it.extras)
         try:
             self.texts = [_followed(it, own) if "extra" in it else it for it in self.texts]
@@ -144,7 +144,7 @@ def _refused_part(place: Place, text: str, fault: _native.Fault) -> InvalidInput
 
 
 class _Document:
-    """A file of TOML that is some input, and how its faults are told."""
+    """A file of TOML that is some input, and how its faults are reported."""
 
     def __init__(self, path: str, data: bytes, input: str = "requirements") -> None:
         self.path, self.input = path, input

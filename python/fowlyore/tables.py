@@ -56,8 +56,8 @@ class Grid:
 
 
 def _line(name: str, rows: Sequence[Optional[Row]]) -> Tuple[str, Tuple[str, ...]]:
-    """A package with what its cells are. Extras that are the same in all of its rows stand beside the
-    name."""
+    """A package with what its cells are. Extras that are the same in all of its rows stand next to
+    the name."""
     extras = {it.extras for it in rows if it is not None}
     if len(extras) == 1:
         common = ",".join(next(iter(extras)))
@@ -92,7 +92,7 @@ def _printable(text: str) -> str:
 
 
 def matrix_table(grid: Grid, width: Optional[int] = None, is_coloured: bool = False) -> Iterator[str]:
-    """The lines of a table, of packages by environments. A `*` stands behind what differs from what most
+    """The lines of a table, of packages by environments. A `*` follows what differs from what most
     columns have. Where a width is given, columns that don't fit stand in further tables below.
 
     >>> rows = [[Row("foo", (), "1")], [Row("foo", (), "1")], [Row("foo", (), "none")]]

@@ -154,7 +154,7 @@ def parse_wheel_filename(
 ) -> Tuple[NormalizedName, Version, BuildTag, FrozenSet[Tag]]:
     """What the name of a wheel says (PEP 427): the normal form of its package's name, its version, its build
     tag, and its tags. The build tag is `()` if there is none, and otherwise the number at its front and the
-    text behind that.
+    text after that.
 
     The tags are the texts between `-` and `.`: they aren't compared with those that interpreters have, which
     is up to packaging.tags. If `validate_order` is true, those of one set have to be sorted (PEP 425). Raises

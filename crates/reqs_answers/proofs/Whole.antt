@@ -1,4 +1,4 @@
--- What is answered behind a list of requirements is what is answered to all texts.
+-- What is answered after a list of requirements is what is answered to all texts.
 use Rattle.std.proofs.Common.{◌≡◌, ◌≢◌, ◌⊎◌, inl, inr, ℕ, Bool, List, Option, Result, Ok, Err, IfErr}
 use Rattle.std.proofs.Common.{sym, subst}
 use Rattle.std.specs.List.{AllZip}

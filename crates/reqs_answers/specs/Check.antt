@@ -30,7 +30,7 @@ on_request = λ version names_prerelease. names_prerelease || not (is_prerelease
 abbrev pub CheckTexts : Type 0
 CheckTexts = Result (ReadTexts EnvironmentRecord) Cause
 
--- the text is that of the answer in a format, for valid texts
+-- the text that `check` prints for valid texts, in a format
 pub record IsCheckText (format : Format) (texts : CheckTexts) (text : List ℕ) : Type 0 where
   pub read : ReadTexts EnvironmentRecord
   pub is_read : texts ≡ Ok read
@@ -55,15 +55,18 @@ abbrev pub AnswersRead : {X : Type 0} → (List Candidate → X → Type 0) → 
 AnswersRead Answers (Ok x) reading = (read : List Candidate) × (reading ≡ Ok read) × Answers read x
 AnswersRead Answers (Err fault) reading = Refuses IsPlain fault reading
 
+-- the parsed texts of `check`, from the bytes of its three inputs and its extras, or the first thing at fault
 abbrev pub check_texts : Variables → List (List ℕ) → List (List ℕ) → CheckTexts
 check_texts vars extras inputs =
     texts_of (environment_from Second 1) vars extras
     (of_input inputs First) (of_input inputs Second) (of_input inputs Third)
 
+-- `check` without `--strict` answers these inputs with this text, in a format, and the status `Answered`
 abbrev pub ChecksAs : Format → Variables → List (List ℕ) → List (List ℕ) → Status → List ℕ → Type 0
 ChecksAs format vars extras inputs status text =
     (status ≡ Answered) × IsCheckText format (check_texts vars extras inputs) text
 
+-- `check` refuses these inputs for this fault
 abbrev pub CheckRefuses : Variables → List (List ℕ) → List (List ℕ) → RunFault → Type 0
 CheckRefuses vars extras inputs fault =
     Refuses (IsOfTexts vars First (of_input inputs First)) fault (check_texts vars extras inputs)
@@ -78,6 +81,7 @@ RunsCheck format vars extras requirements environment candidates contents old ne
 
 -- ---- strictly
 
+-- `check`, strict or not, answers these inputs with this text, in a format, and this status
 abbrev pub ChecksBy : Bool → Format → Variables → List (List ℕ) → List (List ℕ) → Status → List ℕ → Type 0
 ChecksBy strict format vars extras inputs =
     IsCheckAnswer strict format (check_texts vars extras inputs)

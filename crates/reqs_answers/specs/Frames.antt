@@ -1,4 +1,4 @@
--- What stands around the rows of environments, in a format.
+-- The text before and after the rows of environments, in a format; in JSON also the object around all.
 use Rattle.std.specs.Prelude.{ℕ, List, [], ◌++◌, codes, nat_lt}
 use Rattle.std.specs.Fmt.{decimal}
 use Rattle.serde_json.specs.Written.{comma_if}
@@ -17,12 +17,12 @@ head Text number = environment_line number
 head Json number =
     comma_if (nat_lt 1 number) ++ (codes "{\"number\":" ++ (decimal number ++ codes ",\"packages\":["))
 
--- behind them
+-- after them
 abbrev pub foot : Format → List ℕ
 foot Text = []
 foot Json = codes "]}"
 
--- behind all environments
+-- after all environments
 abbrev pub closing : Format → List ℕ
 closing Text = []
 closing Json = codes "]}\n"

@@ -1,4 +1,4 @@
-//! What stands around the rows of environments, in a format.
+//! The text before and after the rows of environments, in a format; in JSON also the object around all.
 
 ghost use Rattle.std.specs.Prelude.{◌≡◌, ◌++◌, ◌∷◌, [], IfOk, OnOk, string_bytes};
 ghost use Rattle.reqs_json.specs.declared.format.Format.TheVariants.{Json};
@@ -10,7 +10,7 @@ use reqs_json::Format;
 use reqs_pieces::Pieces;
 use std::alloc::{AllocError, Global};
 
-/// Appends what stands before all environments.
+/// Appends the text before all environments.
 pub(crate) fn put_opening(
     alloc: Global,
     format: Format,
@@ -25,7 +25,7 @@ pub(crate) fn put_opening(
     }
 }
 
-/// Appends what stands before the rows of the environment with this number.
+/// Appends the text before the rows of the environment with this number.
 pub(crate) fn put_head(
     alloc: Global,
     format: Format,
@@ -39,7 +39,7 @@ pub(crate) fn put_head(
     put(text, piece)
 }
 
-/// What stands before the rows of the environment with this number.
+/// The text before the rows of the environment with this number.
 fn head_text(alloc: Global, format: Format, number: usize) -> Result<String, AllocError>
     ensures { IfOk result (λ text. string_bytes text ≡ head format number) }
 {

@@ -1,6 +1,6 @@
 //! Whether a row is `none`, and the status of a strict command by that.
 //!
-//! `matrix` writes a row that environments share from one text, which tells nothing of its outcome. So a
+//! `matrix` writes a row that environments share from one text, from which its outcome can't be read. So a
 //! strict one asks the table for each environment by `answer_among` first, for all rows. The outcomes that
 //! are decided there are not decided again for the text.
 

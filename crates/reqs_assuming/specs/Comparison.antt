@@ -13,7 +13,7 @@ use Rattle.reqs_lists.specs.Comparison.{IsFewSame, CantBeWithin, OutgrowsOrLong}
 use Rattle.reqs_lists.specs.Lists.{IsOfLists, IsRead, RefusesLists, PassesInEither}
 use Rattle.reqs_assuming.specs.Lists.{two_lists_where}
 
--- the answer for the texts of lists, with at most so many nodes
+-- the answer for the texts of lists, with at most `bounds.nodes` nodes
 abbrev pub SameAnswersWhere : Condition → Bounds → List NodeRecord → Format → ℕ → Variables → Answering
 SameAnswersWhere condition bounds nodes format limit vars inputs ended text =
     IsRead (two_lists_where condition vars inputs)

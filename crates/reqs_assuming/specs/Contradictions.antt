@@ -13,7 +13,7 @@ use Rattle.reqs_lists.specs.Contradictions.{IsConflictsBy, HasTooManyWithin, Out
 use Rattle.reqs_lists.specs.Lists.{IsOfLists, IsRead, RefusesLists, PassesInFirst}
 use Rattle.reqs_assuming.specs.Lists.{one_list_where}
 
--- the answer for the texts of lists, with at most so many nodes
+-- the answer for the texts of lists, with at most `bounds.nodes` nodes
 abbrev pub ConflictsAnswerWhere : Condition → Bool → Bounds → List NodeRecord → Format → ℕ → Variables
     → Answering
 ConflictsAnswerWhere condition strict bounds nodes format limit vars inputs ended text =

@@ -14,7 +14,7 @@ use Rattle.reqs_lists.specs.Lists.{IsRead, PassesInEither}
 use Rattle.reqs_assuming.specs.Comparison.{SameRefusesWhere}
 use Rattle.reqs_assuming.specs.Lists.{two_lists_where}
 
--- the answer for the texts of lists, with at most so many nodes
+-- the answer for the texts of lists, with at most `bounds.nodes` nodes
 abbrev pub CoversAnswersWhere : Condition → Bounds → List NodeRecord → Format → ℕ → Variables → Answering
 CoversAnswersWhere condition bounds nodes format limit vars inputs ended text =
     IsRead (two_lists_where condition vars inputs)

@@ -1,16 +1,16 @@
-//! What lists are asked about where a condition holds.
+//! The options of a command on lists with an assumed condition.
 
 use pep508_formula::MarkerFormula;
 use pep508_url::Vars;
 use reqs_io_faults::Bounds;
 use reqs_json::Format;
 
-/// What a command on lists is asked with, where a condition holds.
+/// The options of a command on lists with an assumed condition.
 #[derive(Clone, Copy)]
 pub struct Terms<'a> {
     /// The environment variables, for URLs.
     pub vars: &'a Vars,
-    /// The environments and extras that count are those for which this holds.
+    /// Only environments and extras for which this holds count.
     pub condition: &'a MarkerFormula,
     pub format: Format,
     pub bounds: Bounds,

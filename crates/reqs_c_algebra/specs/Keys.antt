@@ -14,7 +14,7 @@ pub record IsKeyOf (value : Values) (text : List ℕ) : Type 0 where
   pub means : (v : Valuation) → truth diagram v ≡ value v
   pub is_key : text ≡ diagram_key diagram
 
--- the text is the key of the marker in these bytes, which has a tree of at most so many nodes
+-- the text is the key of the marker in these bytes, which has a tree of at most `most` nodes
 abbrev pub GivesKey : ℕ → List ℕ → List ℕ → Type 0
 GivesKey most bytes = SaysOf most bytes IsKeyOf
 

@@ -14,7 +14,7 @@ Values = Valuation → Bool
 
 -- ---- one marker
 
--- the text has this relation to the values of the marker in these bytes, which has a tree of at most so many
+-- the text has this relation to the values of the marker in these bytes, which has a tree of at most `most`
 -- nodes
 pub record SaysOf (most : ℕ) (bytes : List ℕ) (Says : Values → List ℕ → Type 0) (text : List ℕ)
     : Type 0 where
@@ -46,7 +46,7 @@ TruthEnds most bytes = EndsIn (SaysOf most bytes IsTruthOf) (RefusesTree 1 most 
 abbrev pub IsYesOrNo : Type 0 → List ℕ → Type 0
 IsYesOrNo Holds text = ((text ≡ codes "1") × Holds) ⊎ ((text ≡ codes "0") × (Holds → ⊥))
 
--- the markers in both arguments have trees of at most so many nodes together
+-- the markers in both arguments have trees of at most `most` nodes together
 pub record HaveTrees (most : ℕ) (left right : List ℕ) : Type 0 where
   pub nodes : List NodeRecord
   pub first : Tree

@@ -68,19 +68,19 @@ CheckedEnds bytes = EndsIn (IsChecked bytes) (RefusesMarker 1 bytes)
 
 -- ---- bounds on nodes
 
--- at most so many nodes, no two of which are equal
+-- at most `most` nodes, no two of which are equal
 pub record AreFew (most : ℕ) (nodes : List NodeRecord) : Type 0 where
   pub sound : AreSound nodes
   pub few : length nodes ≤ most
 
--- the marker in these bytes has a tree of at most so many nodes
+-- the marker in these bytes has a tree of at most `most` nodes
 pub record HasTree (most : ℕ) (bytes : List ℕ) : Type 0 where
   pub nodes : List NodeRecord
   pub tree : Tree
   pub are_few : AreFew most nodes
   pub is_tree : IsMarkerTree nodes bytes tree
 
--- these nodes, no two of which are equal, are more than so many, for which the argument of this number is
+-- these nodes, no two of which are equal, are more than `most`, for which the argument of this number is
 -- refused
 pub record AreMore (input most : ℕ) (nodes : List NodeRecord) (place : Place) (message : List ℕ)
     : Type 0 where
@@ -89,7 +89,7 @@ pub record AreMore (input most : ℕ) (nodes : List NodeRecord) (place : Place) 
   pub stands : place ≡ span input 0 0
   pub says : message ≡ codes "more than " ++ (decimal most ++ codes " nodes")
 
--- the argument of this number is a marker, and these nodes, which were made for it, are more than so many
+-- the argument of this number is a marker, and these nodes, which were made for it, are more than `most`
 pub record HasMoreNodes (input most : ℕ) (nodes : List NodeRecord) (bytes : List ℕ) (place : Place)
     (message : List ℕ) : Type 0 where
   pub marker : Marker

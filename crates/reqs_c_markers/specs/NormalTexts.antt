@@ -44,7 +44,7 @@ text_fault_words NeverHolds = codes "never holds"
 -- ---- the text
 
 -- the text is the normal one of a marker with this diagram, empty if that always holds, and the diagram has
--- at most so many clauses
+-- at most `most` clauses
 pub record IsTextOfDiagram (most : ℕ) (diagram : Diagram Question) (text : List ℕ) : Type 0 where
   pub no_fault : text_fault diagram ≡ None
   pub few : clause_count diagram ≤ most
@@ -58,7 +58,7 @@ pub record HasNoText (diagram : Diagram Question) (place : Place) (message : Lis
   pub stands : place ≡ span 1 0 0
   pub says : message ≡ codes "no normal text: " ++ text_fault_words fault
 
--- a marker with this diagram has a normal text, but the diagram more than so many clauses
+-- a marker with this diagram has a normal text, but the diagram more than `most` clauses
 pub record HasMoreClauses (most : ℕ) (diagram : Diagram Question) (place : Place) (message : List ℕ)
     : Type 0 where
   pub no_fault : text_fault diagram ≡ None
@@ -70,7 +70,7 @@ abbrev pub LacksText : ℕ → Diagram Question → Place → List ℕ → Type 
 LacksText most diagram place message =
     HasNoText diagram place message ⊎ HasMoreClauses most diagram place message
 
--- how a call for the normal text of a diagram with at most so many clauses ends
+-- how a call for the normal text of a diagram with at most `most` clauses ends
 abbrev pub DiagramEnds : ℕ → Diagram Question → Ending → Type 0
 DiagramEnds most diagram = EndsIn (IsTextOfDiagram most diagram) (LacksText most diagram)
 
@@ -83,7 +83,7 @@ pub record IsTextOf (most : ℕ) (IsWanted : (Valuation → Bool) → Type 0) (t
   pub wanted : IsWanted (truth diagram)
   pub is_text : IsTextOfDiagram most diagram text
 
--- a marker with values that are wanted has no normal text of at most so many clauses, and the message is the
+-- a marker with values that are wanted has no normal text of at most `most` clauses, and the message is the
 -- reason
 pub record IsNoTextOf (most : ℕ) (IsWanted : (Valuation → Bool) → Type 0) (place : Place) (message : List ℕ)
     : Type 0 where

@@ -100,6 +100,7 @@ pub record IsToldFlag (name : List ℕ) (found : Found) (flag : Bool) : Type 0 w
   pub named : one_text found name ≡ Some (codes "true") → flag ≡ true
   pub other : one_text found name ≡ Some (codes "false") → flag ≡ false
 
+-- whether the words have `--strict`
 abbrev pub IsToldStrict : Found → Bool → Type 0
 IsToldStrict = IsToldFlag (codes "strict")
 

@@ -1,5 +1,5 @@
 #![tactic(auto)]
-//! The command line of `reqs`: what its words ask for, which files are opened, and the exit status. The
+//! The command line of `reqs`: what its words request, which files are opened, and the exit status. The
 //! program `reqs_cli` is a call of `run`.
 
 mod command;

@@ -95,11 +95,11 @@ impl Asked {
     }
 }
 
-/// How a command is asked to run, whichever it is.
+/// The options of any command.
 #[derive(Clone, Copy)]
 pub struct Options<'a> {
     pub format: Format,
-    /// The environments and extras that count are those for which this holds; all without it.
+    /// Only environments and extras for which this holds count; all without it.
     pub condition: Option<&'a MarkerFormula>,
     pub strict: bool,
     pub bounds: Option<Bounds>,
@@ -144,7 +144,7 @@ fn format_named(word: &str) -> Format
     }
 }
 
-/// Whether the words ask for a strict command.
+/// Whether the words have `--strict`.
 fn is_strict(given: &ArgMatches<'_>) -> bool
     ensures { IsToldStrict (found_of given.now) result }
 {
@@ -245,7 +245,7 @@ fn with_command<'a>(
 
 fn check_command<'a>(alloc: Global) -> Result<Command<'a>, AllocError> {
     let check = Command::new(alloc, "check").about(
-        "Prints the greatest candidate of each package that the lines ask for",
+        "Prints the highest candidate of each package that the lines require",
     );
     let check = with_strict(alloc, check, "End with status 4 where a row is none")?;
     let check = with_format(alloc, check)?;
@@ -437,7 +437,7 @@ fn format_argument<'a>(alloc: Global) -> Arg<'a> {
     Arg::new(alloc, "format")
         .long("format")
         .value_name("FORMAT")
-        .help("How answers and faults are told: as text, or as one JSON object (json)")
+        .help("How answers and faults are printed: as text, or as one JSON object (json)")
         .value_parser(FORMATS.as_slice())
         .default_value("text")
 }
@@ -474,12 +474,12 @@ fn with_inputs<'a>(
         .arg(input(
             alloc,
             "CANDIDATES",
-            "The candidates, a name and a version a line, a file; pre-releases are taken where \
+            "The candidates, a name and a version a line, a file; pre-releases count where \
              a line names one",
         ))?
         .arg(
             Arg::new(alloc, "EXTRA")
-                .help("The extras that are asked for")
+                .help("The extras that are requested")
                 .num_args(0..),
         )
 }

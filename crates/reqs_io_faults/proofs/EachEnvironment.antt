@@ -31,7 +31,7 @@ one_behind xs x (Err cause) = refl
 module _ {V : Type 0} (view : V → Data) (input : Input) (values : List V) (i : ℕ) (names : List EnvironmentRecord)
     (all : Result (List EnvironmentRecord) Cause)
     (so_far : behind names (environments_of input (i + 1) (map view (drop i values))) ≡ all) where
-  -- those that stand behind so many values, numbered from this number on
+  -- those that follow the first `place` values, numbered from `number` on
   later : ℕ → ℕ → Result (List EnvironmentRecord) Cause
   later number place = environments_of input number (map view (drop place values))
 

@@ -79,7 +79,7 @@ all_told (a ∷ told) = (as_told a, all_told told)
 
 module _ {W : Type 0} (Answers : Answering) (Refused : Refusing) (contents : W → Option (List ℕ))
     (old new : W) where
-  -- where an input is not read, the command ends so for some bytes of it, whatever inputs stand behind it
+  -- where an input is not read, the command ends so for some bytes of it, whatever inputs follow it
   pub unread : {X : Type 0} (view : X → List ℕ) (input : Input) (told : Option (List ℕ)) (fault : RunFault)
       → ReadsInput input view told (Err fault) → (inputs : List ℕ → List (List ℕ))
       → ((bytes : List ℕ) → AreWithin (take (place_of input) (inputs bytes)))
@@ -110,7 +110,7 @@ module _ {W : Type 0} (Answers : Answering) (Refused : Refusing) (contents : W �
   refused MaySay inputs (TooMany excess) h within r = absurd h
   refused MaySay inputs fault h within r = (within, r)
 
-  -- a command of which one input is not read, whatever inputs stand behind it
+  -- a command of which one input is not read, whatever inputs follow it
   module _ (a : Option (List ℕ)) (others : List (Option (List ℕ))) where
     pub first_unread : {X : Type 0} (view : X → List ℕ) (fault : RunFault)
         → ReadsInput First view a (Err fault)

@@ -44,7 +44,7 @@ pub written : {W : Type 0} (took : W → List ℕ → W → Type 0) (old new : F
     (given wanted : List ℕ) → WritesOnOk took old result given new → given ≡ wanted → WritesOnOk took old result wanted new
 written took old new result given wanted h e = subst (λ bs. WritesOnOk took old result bs new) e h
 
--- a text that is written behind one that was
+-- a text that is written after one that was
 pub written_behind : {W : Type 0} (took : W → List ℕ → W → Type 0) (old mid new : Formatter W) (first result : Result (Unit {0}) Error)
     (front : List ℕ) (said : Option (List ℕ)) → WritesOnOk took old first front mid → IsOk first
     → DisplaysOnOk took mid result said new → DisplaysOnOk took old result (Some front ++? said) new

@@ -101,7 +101,7 @@ abbrev pub IsExcess : RunFault → Type 0
 IsExcess (TooMany excess) = Unit {0}
 IsExcess fault = ⊥
 
--- the fault of a run that asked for no bounds: what passes the greatest numbers has no room in memory
+-- the fault of a run without bounds: what would pass the greatest numbers has no room in memory
 abbrev pub unbounded : RunFault → RunFault
 unbounded (TooMany excess) = Memory
 unbounded fault = fault

@@ -29,14 +29,14 @@ abbrev pub Bounded : {X : Type 0} → (Result X RunFault → Type 0) → Type 0 
 Bounded Plain Fits Passes (Ok answer) = Plain (Ok answer) × Fits
 Bounded Plain Fits Passes (Err fault) = Plain (Err fault) ⊎ Passes fault
 
--- the result of reading a list of requirements, with these nodes afterwards, of which there may be so many
+-- the result of reading a list of requirements, with at most `most` nodes afterwards, these
 abbrev pub LinesWithin : Variables → Input → ℕ → List NodeRecord → List ℕ → Result (List Line) RunFault
     → Type 0
 LinesWithin vars input most nodes bytes =
     Bounded (AnswersLines (StandsFor vars nodes) vars input bytes) (length nodes ≤ most)
     (PassesAt vars input most nodes bytes)
 
--- a command answers only with at most so many nodes
+-- a command answers only with at most `most` nodes
 abbrev pub AnswersWithin : ℕ → List NodeRecord → Answering → Answering
 AnswersWithin most nodes Answers inputs status text = Answers inputs status text × (length nodes ≤ most)
 

@@ -1,10 +1,10 @@
 //! How a command ends: its statuses, its faults and their texts.
 //!
-//! What is at fault (`Cause`) is less than what a fault says: no definition decides the message and place
-//! of a line that is no requirement, so `Cause` names the line, and beside it stands that the error is that
-//! of some line with this number. A text may have words of the crate `url`, of which nothing is claimed
-//! (`fault_text` gives none). `RunFault::Extra` holds a `RefusedWord`, a text that contracts see as its
-//! bytes, so that definitions can name every fault of the inputs.
+//! All faults of one line that is no requirement have the same `Cause`, which names the line: no definition
+//! decides the message and its place. Contracts say besides that the error is that of some line with this
+//! number. A text may have words of the crate `url`, of which nothing is claimed (`fault_text` gives none).
+//! `RunFault::Extra` holds a `RefusedWord`, a text that contracts see as its bytes, so that definitions can
+//! name every fault of the inputs.
 
 ghost use Rattle.std.specs.Prelude.{◌≡◌, map, string_bytes, IfOk, IfSome};
 ghost use Rattle.std.specs.Io.{StartsWith};
@@ -260,7 +260,7 @@ pub enum RunFault {
         limit: u64,
         package: PackageName,
     },
-    /// A bound that the caller asked for was passed.
+    /// A bound that the caller set was passed.
     TooMany(Excess),
 }
 
@@ -414,7 +414,7 @@ impl RunFault {
         }
     }
 
-    /// The fault of a run that asked for no bounds: what passes the greatest numbers has no room in memory.
+    /// The fault of a run without bounds: what would pass the greatest numbers has no room in memory.
     pub fn unbounded(self) -> RunFault
         ensures { result ≡ unbounded self }
     {

@@ -1,4 +1,4 @@
--- The objects of environments and of rows, one behind another.
+-- The objects of environments and of rows, one after another.
 use Rattle.std.proofs.Common.{◌≡◌, ◌++◌, ◌∷◌, ℕ, List, [], map, Bool, true, false}
 use Rattle.std.proofs.Common.{codes, ap, refl, append_assoc}
 use Rattle.std.specs.Fmt.{decimal}

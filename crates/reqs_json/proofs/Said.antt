@@ -1,4 +1,4 @@
--- What is said of a fault, behind its place.
+-- What is said of a fault, after its place.
 use Rattle.std.proofs.Common.{◌≡◌, ◌∙◌, ◌++◌, List, ℕ, Option, Some, option_map, append_assoc, ap, refl}
 use Rattle.std.proofs.Common.{None, codes, Result, Ok, Err, IfOk, IfSome, String, string_bytes}
 use Rattle.std.specs.Fmt.{◌++?◌}

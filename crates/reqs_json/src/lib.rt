@@ -1,9 +1,10 @@
 #![tactic(auto)]
 //! The answers and faults of the commands of `reqs`, as JSON objects on one line.
 //!
-//! All JSON is written by `serde_json`, whose `Value` sorts an object's members by their keys' bytes: that
-//! order is the documented one, and no code here quotes anything. An object has all its keys; `null` is
-//! what it lacks.
+//! JSON is written by `serde_json`, whose `Value` sorts an object's members by their keys' bytes: that order
+//! is the documented one, and no code here quotes anything. Only what `matrix` has around and between the
+//! rows of its environments is written without it, by `reqs_answers/src/frames.rt` and `reqs_rows`. An object
+//! has all its keys; `null` is what it lacks.
 
 mod answers;
 mod faults;

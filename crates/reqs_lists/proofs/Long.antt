@@ -36,7 +36,7 @@ all_faultless most (line ∷ lines) h = (
   all_faultless most lines h.1,
 )
 
--- a line with a fault stands behind lines without
+-- a line with a fault stands after lines without
 pub first_fault : (most : Option ℕ) (said : List LineRecord) (number : ℕ) (cause : NormalCause)
     → IsFirstError most said (Line number cause) → IsFirstFault said number cause
 first_fault most said number cause h =

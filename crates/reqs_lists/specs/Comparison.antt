@@ -133,7 +133,8 @@ RunsSame format limit vars left right contents old new result =
 
 -- ---- with bounds
 
--- the fault is the reason why parsed lists can't be compared, with so many cases of all packages of either
+-- the fault is the reason why parsed lists can't be compared, with at most `most` cases of all packages of
+-- either
 abbrev pub CantBeWithin : ℕ → ℕ → Lists → RunFault → Type 0
 CantBeWithin limit most lists fault =
     (error : SameError) × (fault ≡ fault_of limit error)
@@ -159,7 +160,7 @@ OutgrowsOrCases bounds nodes limit lists fault =
     Outgrows bounds.nodes nodes fault
     ⊎ ((length nodes ≤ bounds.nodes) × HasMoreCases limit bounds.cases lists fault)
 
--- the marker of the first difference, if there is one, has at most so many clauses
+-- the marker of the first difference, if there is one, has at most `most` clauses
 abbrev pub HasFewClauses : ℕ → Lists → Type 0
 HasFewClauses most lists =
     (name : List ℕ) (diagram : Diagram Question) → IsToldDifference lists name diagram
@@ -177,7 +178,7 @@ HasLongDifference limit most lists fault =
     × (fault ≡ run.TooMany (excess.ClausesFor name most)) × IsToldDifference lists name diagram
     × (most < clause_count diagram))
 
--- the text of a difference in a format, if its diagram has at most so many clauses
+-- the text of a difference in a format, if its diagram has at most `most` clauses
 abbrev pub TellsWithin : Format → ℕ → List ℕ → Diagram Question → Result (String Global) RunFault → Type 0
 TellsWithin format most name diagram (Ok text) =
     (string_bytes text ≡ difference_in format name diagram) × (clause_count diagram ≤ most)
@@ -192,7 +193,7 @@ OutgrowsOrLong bounds nodes limit lists fault =
     OutgrowsOrCases bounds nodes limit lists fault
     ⊎ ((length nodes ≤ bounds.nodes) × HasLongDifference limit bounds.clauses lists fault)
 
--- the answer for the texts of lists, with at most so many nodes
+-- the answer for the texts of lists, with at most `bounds.nodes` nodes
 abbrev pub SameAnswersWithin : Bounds → List NodeRecord → Format → ℕ → Variables → List (List ℕ) → Status
     → List ℕ → Type 0
 SameAnswersWithin bounds nodes format limit vars inputs ended text =

@@ -122,7 +122,7 @@ FindsOrRefuses limit most lines (Ok found) =
     FindsWithin (λ all. all) limit most lines (Ok (map conflict_record found.items))
 FindsOrRefuses limit most lines (Err fault) = (fault ≡ run.Memory) ⊎ HasTooManyWithin limit most lines fault
 
--- the answer for the texts of lists, with at most so many nodes
+-- the answer for the texts of lists, with at most `bounds.nodes` nodes
 abbrev pub ConflictsAnswerWithin : Bounds → List NodeRecord → Format → ℕ → Variables → List (List ℕ) → Status
     → List ℕ → Type 0
 ConflictsAnswerWithin bounds nodes format limit vars inputs ended text =
@@ -160,7 +160,7 @@ IsConflictsBy strict format limit most lines ended text =
     (found : List ConflictRecord) × (ended ≡ conflicts_status strict found)
     × FindsWithin (λ all. all) limit most lines (Ok found) × (text ≡ conflicts_in format found)
 
--- the answer for the texts of lists, with at most so many nodes
+-- the answer for the texts of lists, with at most `bounds.nodes` nodes
 abbrev pub ConflictsAnswerBy : Bool → Bounds → List NodeRecord → Format → ℕ → Variables → List (List ℕ)
     → Status → List ℕ → Type 0
 ConflictsAnswerBy strict bounds nodes format limit vars inputs ended text =

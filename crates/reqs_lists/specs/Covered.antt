@@ -106,7 +106,7 @@ CoversOrRefuses limit most nodes lists (Ok covers) =
 CoversOrRefuses limit most nodes lists (Err fault) =
     (fault ≡ run.Memory) ⊎ CantBeWithin limit most lists fault
 
--- the marker of the first place that isn't covered, if there is one, has at most so many clauses
+-- the marker of the first place that isn't covered, if there is one, has at most `most` clauses
 abbrev pub HasFewUncovered : ℕ → Lists → Type 0
 HasFewUncovered most lists =
     (name : List ℕ) (diagram : Diagram Question) (numbers : List ℕ) →
@@ -124,7 +124,7 @@ HasLongUncovered limit most lists fault =
     × (fault ≡ run.TooMany (excess.ClausesFor name most)) × IsToldUncovered lists name diagram numbers
     × (most < clause_count diagram))
 
--- the text of a place that isn't covered in a format, if its diagram has at most so many clauses
+-- the text of a place that isn't covered in a format, if its diagram has at most `most` clauses
 abbrev pub TellsUncovered : Format → ℕ → List ℕ → Diagram Question → List ℕ
     → Result (String Global) RunFault → Type 0
 TellsUncovered format most name diagram numbers (Ok text) =
@@ -140,7 +140,7 @@ OutgrowsOrUncovered bounds nodes limit lists fault =
     OutgrowsOrCases bounds nodes limit lists fault
     ⊎ ((length nodes ≤ bounds.nodes) × HasLongUncovered limit bounds.clauses lists fault)
 
--- the answer for the texts of lists, with at most so many nodes
+-- the answer for the texts of lists, with at most `bounds.nodes` nodes
 abbrev pub CoversAnswersWithin : Bounds → List NodeRecord → Format → ℕ → Variables → List (List ℕ) → Status
     → List ℕ → Type 0
 CoversAnswersWithin bounds nodes format limit vars inputs ended text =

@@ -69,7 +69,7 @@ RunsNormal format vars requirements contents old new result =
 
 -- ---- with bounds
 
--- the answer on lines whose markers have at most so many clauses
+-- the answer on lines whose markers have at most `most` clauses
 abbrev pub IsFewNormal : Format → ℕ → List LineRecord → Status → List ℕ → Type 0
 IsFewNormal format most lines ended text =
     IsNormalAnswer format lines ended text × AllByRecursion (IsPrintable (Some most)) lines
@@ -86,7 +86,7 @@ HasLongLine most lines fault =
     (number : ℕ) × (fault ≡ run.TooMany (excess.ClausesAt First number most))
     × IsFirstError (Some most) lines (TooManyClauses number)
 
--- the answer for the texts of lists, with at most so many nodes
+-- the answer for the texts of lists, with at most `bounds.nodes` nodes
 abbrev pub NormalAnswersWithin : Bounds → List NodeRecord → Format → Variables → List (List ℕ) → Status
     → List ℕ → Type 0
 NormalAnswersWithin bounds nodes format vars inputs ended text =

@@ -135,7 +135,7 @@ module _ (format : Format) (admits : Admits) (nodes : List NodeRecord) (v : Valu
       (more_by (take i table) (get_or table i other) front.0 put.0 place later old mid part new front.1 front.2 front.3 lies separated
       put.2 put.1)
 
--- pieces are added behind the one that separates rows
+-- pieces are added after the one that separates rows
 pub separated_grown : (old new : List (List ℕ)) → Grow old new → HasSeparator old → HasSeparator new
 separated_grown old new grow separated = (separated.0 ++ grow.0, grow.1 ∙ ap (λ l. l ++ grow.0) separated.1)
 

@@ -4,7 +4,7 @@ use Rattle.std.proofs.Common.{set, Option, Some, None, Result, Ok, Err, OnOk, re
 use Rattle.std.proofs.lemmas.List.{get_or-map, length-map, map-set, get_or-set_same, get_or-set_other}
 use Rattle.std.specs.List.{AllZip, AllByRecursion}
 
--- what stands behind a list is what is read where nothing stands
+-- what stands after a list is what is read where nothing stands
 pub default_behind : {X : Type 0} (xs : List X) (d : X) (at : ℕ) → get_or (xs ++ d ∷ []) at d ≡ get_or xs at d
 default_behind [] d zero = refl
 default_behind [] d (suc at) = refl

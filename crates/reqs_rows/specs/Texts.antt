@@ -56,7 +56,7 @@ abbrev pub separation : Format → Bool → Option ℕ → List ℕ
 separation format later None = []
 separation format later (Some place) = if later then between format else []
 
--- whether rows come before the package behind it
+-- whether rows come before the package after it
 abbrev pub is_later : Bool → Option ℕ → Bool
 is_later later None = later
 is_later later (Some place) = true

@@ -1,4 +1,4 @@
-//! What stands between two rows.
+//! The text between two rows.
 
 ghost use Rattle.std.specs.Prelude.{◌≡◌, ◌++◌, IfOk, OnOk};
 ghost use Rattle.reqs_json.specs.Rows.{between};

@@ -137,7 +137,7 @@ fn object(command: Command) -> &'static str {
     }
 }
 
-/// The place behind a command's inputs.
+/// The place after a command's inputs.
 pub(crate) fn behind(command: Command) -> usize {
     match command {
         Command::Check | Command::Matrix => 4,

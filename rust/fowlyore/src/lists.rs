@@ -8,8 +8,9 @@ use std::str::FromStr;
 /// The default limit on the cases of a package.
 pub const LIMIT: u64 = 4096;
 
-/// For each package that an applicable line requires, by name, its extras and the highest candidate that all
-/// these lines accept.
+/// For each required package, by name, its extras and the highest candidate that all applicable lines accept.
+///
+/// `requirements` has one per line, `candidates` a name and a version per line; `environment` is a JSON object.
 ///
 /// ```
 /// use fowlyore::{check, check_text, Outcome};

@@ -61,7 +61,7 @@ impl Refused {
     }
 }
 
-/// What stands behind the first `: ` of a text, if what stands before that is so; otherwise the text.
+/// What follows the first `: ` of a text, if what stands before that is so; otherwise the text.
 fn behind(text: &str, is_so: impl Fn(&str) -> bool) -> &str {
     match text.split_once(": ") {
         Some((front, rest)) if is_so(front) => rest,
