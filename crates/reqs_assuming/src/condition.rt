@@ -16,7 +16,10 @@ use std::alloc::Global;
 /// # Errors
 ///
 /// That of `pep508_marker_parser::parse_formula` for what is no marker; `Memory` in it when memory runs out.
-pub(crate) fn read_condition(alloc: Global, text: &str) -> Result<MarkerFormula, Pep508Error<VerbatimUrl>>
+pub(crate) fn read_condition(
+    alloc: Global,
+    text: &str,
+) -> Result<MarkerFormula, Pep508Error<VerbatimUrl>>
     ensures { ReadsCondition text.now result }
 {
     parse_formula(alloc, text, &mut Silent)
