@@ -1,5 +1,5 @@
 -- The regions of groups, written one after another.
-use Rattle.std.proofs.Common.{◌≡◌, ◌∙◌, ◌||◌, ℕ, List, [], ◌∷◌, ◌++◌, map, refl, sym, ap, subst, Bor, Vec}
+use Rattle.std.proofs.Common.{◌≡◌, ◌∙◌, ◌||◌, ◌&&◌, not, Bool, true, false, ℕ, List, [], ◌∷◌, ◌++◌, map, refl, sym, ap, subst, Bor, Vec}
 use Rattle.std.proofs.lemmas.List.{map-append}
 use Rattle.std.specs.BTreeMap.{BTreeMap}
 use Rattle.std.specs.List.{list_any, flat_map, AllByRecursion}
@@ -10,7 +10,8 @@ use Rattle.std.specs.Str.{bytes_eq}
 use Rattle.pep508_diagram.specs.Question.{Valuation}
 use Rattle.pep508_tree.specs.Tree.{Tree}
 use Rattle.pep508_tree.specs.Meaning.{NodeRecord, Extends, IsTree, holds}
-use Rattle.pep508_tree.proofs.Conjoining.{extends_itself}
+use Rattle.pep508_conjunctions.specs.Sources.{all_hold}
+use Rattle.pep508_tree.proofs.Conjoining.{extends_itself, tree_kept}
 use Rattle.pep508_tree.proofs.Diagrams.{holds_kept}
 use Rattle.reqtable_answer.specs.Groups.{has_group}
 use Rattle.reqtable_key.specs.Entries.{AppendsRegion, AreWritten, IsRegionOf, WritesRegions, any_holds, trees_at}
@@ -24,6 +25,22 @@ any_kept old new (t ∷ trees) v keeps all =
     let first = holds_kept old new keeps t all.0 v in
     let rest = any_kept old new trees v keeps all.1 in
     λ i. first i || rest i
+
+by_first : (h a r : Bool) → not a ≡ r → not (not h && a) ≡ (h || r)
+by_first true a r e = refl
+by_first false a r e = e
+
+-- one of some trees holds where not all their negations do
+pub not_all : (nodes : List NodeRecord) (trees : List Tree) (v : Valuation) →
+    not (all_hold nodes true trees v) ≡ any_holds nodes trees v
+not_all nodes [] v = refl
+not_all nodes (t ∷ trees) v =
+    by_first (holds nodes t v) (all_hold nodes true trees v) (any_holds nodes trees v) (not_all nodes trees v)
+
+pub trees_kept : (old new : List NodeRecord) (trees : List Tree) → Extends old new → AllByRecursion (IsTree old) trees →
+    AllByRecursion (IsTree new) trees
+trees_kept old new [] keeps all = tt
+trees_kept old new (t ∷ trees) keeps all = (tree_kept old new keeps t all.0, trees_kept old new trees keeps all.1)
 
 all_more : {A : Type 0} (P : A → Type 0) (xs : List A) (x : A) → AllByRecursion P xs → P x →
     AllByRecursion P (xs ++ x ∷ [])

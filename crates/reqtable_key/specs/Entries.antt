@@ -1,8 +1,9 @@
 -- What the cases of packages require, as the program gathers it.
 use Rattle.std.specs.Prelude.{◌≡◌, ◌++◌, ℕ, Bool, true, false, List, [], ◌∷◌, map, filter, flat_map}
-use Rattle.std.specs.Prelude.{Option, Some, None, Vec}
+use Rattle.std.specs.Prelude.{Option, Some, None, Result, Ok, Err, Vec}
 use Rattle.std.specs.Borrow.{Bor}
 use Rattle.std.specs.BTreeMap.{BTreeMap}
+use Rattle.std.specs.Global.{Global}
 use Rattle.std.specs.List.{list_any, AllZip, AllByRecursion}
 use Rattle.std.specs.List.Sorted.{IsStrictlySortedBy}
 use Rattle.std.specs.Option.{option_map_or}
@@ -18,6 +19,7 @@ use Rattle.pep508_tree.specs.Tree.{Tree}
 use Rattle.pep508_tree.specs.Meaning.{NodeRecord, Extends, holds}
 use Rattle.reqtable_answer.specs.Groups.{group_of, has_group}
 use Rattle.pep508_marker_key.specs.Told.{listed_bytes}
+use Rattle.reqtable_compare.specs.declared.sides.SameError.{SameError}
 use Rattle.reqtable_compare.specs.Differences.{Listed, Sums}
 use Rattle.reqtable_compare.specs.Summed.{SummaryRecord}
 use Rattle.reqtable_key.specs.declared.entries.Entry.{Entry}
@@ -69,6 +71,10 @@ pub record AppendsOwn (side : Listed) (name : List ℕ) (old new : List EntryRec
   pub own : List EntryRecord
   pub are : AreOwn side name own
   pub appended : new ≡ old ++ own
+
+abbrev pub key_seen : Result (Vec ℕ Global) SameError → Result (List ℕ) SameError
+key_seen (Ok key) = Ok key.items
+key_seen (Err error) = Err error
 
 -- ---- by their bytes
 

@@ -4,8 +4,8 @@
 
 mod entries;
 mod heads;
-mod key;
 pub mod laws;
+mod list_key;
 mod regions;
 
-pub use key::key;
+pub use list_key::key;

@@ -25,7 +25,9 @@ pub(crate) fn written(
 {
     let mut key = Vec::new(alloc);
     for group in groups.iter() {
-        push_region(alloc, interner, &mut key, group.0, group.1)?;
+        let head = group.0;
+        let trees = group.1;
+        push_region(alloc, interner, &mut key, head, trees)?;
     }
     key.push(0)?;
     Ok(key)

@@ -1,12 +1,13 @@
 //! The key of a list.
 
-ghost use Rattle.std.specs.Prelude.{◌≡◌, List, Result};
+ghost use Rattle.std.specs.Prelude.{List};
 ghost use Rattle.std.specs.List.{AllZip};
 ghost use Rattle.pep508_tree.specs.Meaning.{Extends};
 ghost use Rattle.pep508_url.specs.Vars.{Variables};
 ghost use Rattle.reqtable_requirements.specs.Asks.{AreOfNodes};
 ghost use Rattle.reqtable_requirements.specs.LineReading.{LineRecord};
 ghost use Rattle.reqtable_requirements.specs.Requirements.{StandsFor};
+ghost use Rattle.reqtable_key.specs.Entries.{key_seen};
 ghost use Rattle.reqtable_key.specs.Keys.{Keys};
 
 use crate::entries::{entries_of, grouped};
@@ -43,7 +44,8 @@ pub fn key<'a>(
 ) -> Result<Vec<u8>, SameError>
     requires { AreOfNodes interner.old.nodes requirements.now }
     ensures key { (vars : Variables) (said : List LineRecord) →
-        AllZip (StandsFor vars interner.old.nodes) requirements.now said → Keys limit in_all said result }
+        AllZip (StandsFor vars interner.old.nodes) requirements.now said →
+        Keys limit in_all said (key_seen result) }
     ensures keeps { Extends interner.old.nodes interner.new.nodes }
 {
     if let Some(refused) = first_refusal(alloc, requirements.lines(), &[])? {
