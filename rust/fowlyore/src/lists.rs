@@ -5,7 +5,8 @@ use crate::native::{self, Format};
 use crate::{grammar, Bounds, Conflict, Covers, Refused, Row, Same};
 use std::str::FromStr;
 
-/// The default limit on the cases of a package.
+/// The default limit on the cases of a package. What has more is refused
+/// ([`is_of_limit`](Refused::is_of_limit)).
 pub const LIMIT: u64 = 4096;
 
 /// For each package that an applicable line requires, by name, its extras and the highest candidate that all

@@ -37,10 +37,7 @@ impl Refused {
     #[must_use]
     pub fn is_of_clauses(&self) -> bool {
         let counted = self.excess();
-        counted.map_or(false, |it| {
-            let package = it.strip_prefix("clauses for ");
-            it == "clauses" || package.map_or(false, |name| name.bytes().all(is_of_name))
-        })
+        counted.map_or(false, |it| it == "clauses" || is_of_package(it, "clauses"))
     }
 
     /// Whether the packages of a list together have more cases than the call may make
@@ -48,6 +45,18 @@ impl Refused {
     #[must_use]
     pub fn is_of_cases(&self) -> bool {
         self.excess() == Some("cases in all")
+    }
+
+    /// Whether a package of a list has more cases than the call's `limit`.
+    ///
+    /// ```
+    /// let refused = fowlyore::conflicts(b"foo\nfoo ; os_name == 'nt'\n", 1).unwrap_err();
+    /// assert_eq!(refused.message, "requirements: more than 1 cases for foo");
+    /// assert!(refused.is_of_limit() && !refused.is_of_cases());
+    /// ```
+    #[must_use]
+    pub fn is_of_limit(&self) -> bool {
+        self.excess().map_or(false, |it| is_of_package(it, "cases"))
     }
 
     /// What there is more of than a bound, as it is said after the number. Nothing but the name of an input and
@@ -71,6 +80,13 @@ fn behind(text: &str, is_so: impl Fn(&str) -> bool) -> &str {
 
 fn is_number(text: &str) -> bool {
     text.bytes().all(|it| it.is_ascii_digit())
+}
+
+/// Whether that many of something are said of one package.
+fn is_of_package(said: &str, counted: &str) -> bool {
+    let behind = said.strip_prefix(counted);
+    let package = behind.and_then(|it| it.strip_prefix(" for "));
+    package.map_or(false, |name| name.bytes().all(is_of_name))
 }
 
 fn is_of_name(byte: u8) -> bool {
