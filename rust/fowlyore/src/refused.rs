@@ -95,7 +95,7 @@ fn is_of_name(byte: u8) -> bool {
 
 impl fmt::Display for Refused {
     fn fmt(&self, f: &mut fmt::Formatter<'_>) -> fmt::Result {
-        f.write_str(&self.message)
+        f.pad(&self.message)
     }
 }
 
