@@ -12,6 +12,9 @@ pub const LIMIT: u64 = 4096;
 /// For each package that an applicable line requires, by name, its extras and the highest candidate that all
 /// these lines accept.
 ///
+/// Markers compare `python_version` by the environment's `python_full_version`, and 3.14.0rc1 is below 3.14: on a
+/// pre-release of Python give the release, 3.14.0, or `python_version >= '3.14'` doesn't hold there.
+///
 /// ```
 /// use fowlyore::{check, check_text, Outcome};
 ///

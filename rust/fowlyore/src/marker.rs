@@ -421,6 +421,8 @@ impl MarkerTree {
     /// alone a decision tree is made, once and no further than `Bounds::default()`: where it isn't found out
     /// within that, the marker is refused for them.
     ///
+    /// On a pre-release of Python give the release as `python_full_version` ([`check`](crate::check)).
+    ///
     /// ```
     /// use fowlyore::{MarkerTree, Requirement};
     ///

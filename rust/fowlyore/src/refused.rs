@@ -10,6 +10,8 @@ use std::fmt;
 /// assert_eq!((refused.input, refused.line, refused.start, refused.len), (1, 2, 3, 3));
 /// let refused = "foo ;".parse::<fowlyore::Requirement>().unwrap_err();
 /// assert_eq!((refused.start, refused.len), (5, 1));
+/// let refused = "foo @".parse::<fowlyore::Requirement>().unwrap_err();
+/// assert_eq!((refused.start, refused.len), (5, 0));
 /// ```
 #[derive(Clone, Debug, PartialEq, Eq, Hash)]
 pub struct Refused {
@@ -21,8 +23,9 @@ pub struct Refused {
     pub line: usize,
     /// The first byte at fault, in the line or the text.
     pub start: usize,
-    /// The number of bytes at fault, which is 1 for what is missing at the end, where there is no byte; 0 if it
-    /// is unknown.
+    /// The number of bytes at fault: 1 for what is missing, at the end or where it should stand, but 0 for a URL, a
+    /// marker's operator and an empty piece of a list; of what follows a marker all but the last character; 0 if
+    /// it is unknown.
     pub len: usize,
 }
 
