@@ -59,7 +59,9 @@ typedef struct reqs_reply {
     size_t length;   /* of the whole text, in bytes */
     size_t line;     /* the number of the line at fault, from 1; 0 if there is none */
     size_t start;    /* the first byte at fault, in that line, or in the text if there is no line */
-    size_t len;      /* the number of bytes at fault, 1 for what is missing at the end; 0 if it is unknown */
+    size_t len;      /* the number of bytes at fault: 1 for what is missing, at the end or where it should stand, but 0
+                      * for a URL, a marker's operator and an empty piece of a list; of what follows a marker all but
+                      * the last character; 0 if it is unknown */
 } reqs_reply;
 
 /* No bound on what a call makes: a number of nodes, clauses or cases that none has. */
@@ -74,8 +76,10 @@ uint32_t reqs_abi(void);
 
 /* ---- lists, as of the command reqs: at most 16,777,216 bytes each. Extras are one per line; empty lines are
  * skipped. An environment is a JSON object with the eleven variables of PEP 508 as strings, and environments
- * are a JSON list of such objects. `limit` is the number of cases that a package may have; the command's
- * default is 4096.
+ * are a JSON list of such objects; JSON that nests deeper than 127, or has a lone surrogate, is refused. Markers
+ * compare python_version by python_full_version, and 3.14.0rc1 is below 3.14: on a pre-release of Python give the
+ * release, 3.14.0, or `python_version >= '3.14'` doesn't hold there. `limit` is the number of cases that a package
+ * may have; the command's default is 4096.
  *
  * Bounds. A call with `nodes` makes decision trees of its lists' markers, which may have exponentially more nodes
  * than the markers have comparisons: where all together have more than `nodes`, it is refused at the line after

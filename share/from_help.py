@@ -4,7 +4,8 @@
     from_help.py PROGRAM FOLDER
 
 PROGRAM is asked for its help and its version, and for the help of each command that it names. The files come to FOLDER:
-NAME.1 for man, NAME.bash, _NAME for zsh and NAME.fish, where NAME is what the help calls the program.
+NAME.1 for man, NAME.bash, _NAME for zsh and NAME.fish, where NAME is what the help calls the program. The manual page of
+`reqs` has the exit statuses of docs/COMMANDS.md too.
 """
 
 import os
@@ -16,6 +17,10 @@ import sys
 ENTRY = re.compile(r" {2,6}(\S.*?)(?: {2,}(\S.*))?")
 OPTION = re.compile(r"-[A-Za-z]|--[a-z][a-z-]*")
 VALUES = re.compile(r"\[possible values: (.*?)\]")
+# The page on a program's commands, and where it tells of itself.
+PAGES = {"reqs": os.path.join(os.path.dirname(os.path.dirname(os.path.abspath(__file__))), "docs", "COMMANDS.md")}
+SEE_ALSO = "COMMANDS.md, the page on the commands: docs/COMMANDS.md of the sources, /usr/share/doc/reqs/COMMANDS.md of the Debian package."
+STATUS = re.compile(r"^- (\d+): (.*(?:\n  .*)*)", flags=re.M)
 
 
 class Help:
@@ -80,6 +85,17 @@ def entries(part):
         yield from (".TP", f"\\fB{roff(term)}\\fR", roff(said))
 
 
+def statuses(page):
+    """The exit statuses of a page, and when they are; but those that scripts of the sources alone have."""
+    with open(page, encoding="utf-8") as file:
+        part = re.search(r"^## Exit statuses\n(.*?)(?=^## |\Z)", file.read(), flags=re.S | re.M)
+    found = STATUS.findall(part[1] if part else "")
+    told = [(status, " ".join(said.split())) for status, said in found if "`./" not in said]
+    if not told:
+        raise ValueError(f"{page} has no exit statuses")
+    return told
+
+
 def manual(program):
     name = program.name
     yield f'.TH {name.upper()} 1 "" "{roff(program.version)}"'
@@ -94,22 +110,42 @@ def manual(program):
         for title, part in it.parts.items():
             yield f".SS {title}"
             yield from entries(part)
+    if name in PAGES:
+        yield ".SH EXIT STATUS"
+        yield from (re.sub("`(.*?)`", r"\\fB\1\\fR", line) for line in entries(statuses(PAGES[name])))
+        yield from (".SH SEE ALSO", roff(SEE_ALSO))
 
 
 # ---- completions
 
 
+def values_of(said):
+    """The values that an option may have, with blanks between, where the help names them."""
+    found = VALUES.search(said)
+    return found[1].replace(",", "") if found else ""
+
+
 def bash(program):
     name, commands = program.name, [it for it, _ in program.help.commands()]
     spelled = {"": program.help, **program.commands}
-    yield from (f"_{name}() {{", '    local word=${COMP_WORDS[COMP_CWORD]} command="" options="" commands=""')
+    place = "before=$((COMP_CWORD - 1))"
+    yield from (f"_{name}() {{", f'    local word=${{COMP_WORDS[COMP_CWORD]}} {place} command="" options="" commands="" values=""')
     yield '    [ "$COMP_CWORD" -lt 2 ] || command=${COMP_WORDS[1]}'
+    # (a = behind an option is a word of its own)
+    yield '    if [ "$word" = = ]; then word=""; elif [ "${COMP_WORDS[before]}" = = ]; then before=$((before - 1)); fi'
     yield "    case $command in"
     for command, it in spelled.items():
         words = " ".join(spelling for spellings, *_ in it.options() for spelling in spellings)
         yield f"        {shlex.quote(command)}) options={shlex.quote(words)} ;;"
     yield "    esac"
     yield f'    [ -n "$command" ] && [ "$command" != help ] || commands={shlex.quote(" ".join(commands))}'
+    yield '    case "$command ${COMP_WORDS[before]}" in'
+    for command, it in program.commands.items():
+        for spelling, values in ((spelling, values_of(said)) for spellings, _, said in it.options() for spelling in spellings):
+            if values:
+                yield f"        {shlex.quote(f'{command} {spelling}')}) values={shlex.quote(values)} ;;"
+    yield "    esac"
+    yield '    [ -z "$values" ] || { options=$values commands=$values; }'
     yield "    COMPREPLY=()"
     yield "    case $word in"
     yield '        -*) mapfile -t COMPREPLY < <(compgen -W "$options" -- "$word") ;;'
@@ -121,12 +157,6 @@ def bash(program):
 
 def zsh_said(text):
     return re.sub(r"([\[\]:\\])", r"\\\1", text)
-
-
-def values_of(said):
-    """The values that an option may have, with blanks between, where the help names them."""
-    found = VALUES.search(said)
-    return found[1].replace(",", "") if found else ""
 
 
 def zsh_options(it):

@@ -124,6 +124,15 @@ has_what_is_told() {
     done
 }
 
+# The manual page names files of the program's package.
+has_what_the_manual_names() {
+    local path
+    zcat "$work/program/usr/share/man/man1/reqs.1.gz" | grep -oE '/usr/[A-Za-z0-9_./-]*[A-Za-z0-9]' >"$work/named" || return
+    while read -r path; do
+        [ -e "$work/program$path" ] || { echo "there is no $path"; return 1; }
+    done <"$work/named"
+}
+
 # field PACKAGE NAME VALUE
 field() {
     [ "$(dpkg-deb -f "$(deb "$1")" "$2")" = "$3" ] || { dpkg-deb -f "$(deb "$1")"; return 1; }
@@ -215,6 +224,7 @@ holds "sums of the shared library" is_whole "$work/runs"
 holds "sums of what C programs are compiled with" is_whole "$work/compiles"
 holds "an older package reqs gives the library up" takes_over
 holds "the packages' files are those that the header and the documents tell of" has_what_is_told
+holds "the package has what the manual page names" has_what_the_manual_names
 holds "the program needs the C library alone" needs_libc reqs "$work/program/usr/libexec/reqs/reqs"
 holds "the program runs on each x86-64 processor" runs_on_each_processor "$work/program/usr/libexec/reqs/reqs"
 holds "the shared library needs the C library alone" needs_libc libreqs4 "$work/runs/$libraries/libreqs.so.4"

@@ -126,6 +126,19 @@ holds "the help has sentences" [ "$(wc -l <words)" -ge 9 ]
 holds "the manual page has all sentences of the help" has_words "$prefix/share/man/man1/reqs.1" cat words
 holds "the manual page has the version" grep -qF "reqs $("$prefix/bin/reqs" --version | cut -d ' ' -f 2)" "$prefix/share/man/man1/reqs.1"
 
+# The exit statuses of docs/COMMANDS.md but those of `./reqs` and `./try`, and what the manual page has of them.
+statuses() {
+    sed -n '/^## Exit statuses/,/^Of several/p' "$top/docs/COMMANDS.md" | grep '^- [0-9]' | grep -vF '`./' | sed 's/^- //; s/`//g'
+}
+statuses_of_page() {
+    sed -n '/^\.SH EXIT STATUS/,/^\.SH SEE ALSO/p' "$1" | sed 's/\\f[BR]//g; s/\\-/-/g' | sed -n '/^\.TP/{n;N;s/\n/: /;p;}'
+}
+statuses >words
+holds "there are exit statuses" [ "$(cut -d: -f1 words | tr '\n' ' ')" = "0 1 2 3 4 " ]
+statuses_of_page "$prefix/share/man/man1/reqs.1" >told
+holds "the manual page has the exit statuses of the commands' page" cmp -s words told
+holds "the manual page names the commands' page" grep -qwF "/usr/share/doc/reqs/COMMANDS.md" <(sed -n '/^\.SH SEE ALSO/,$p' "$prefix/share/man/man1/reqs.1")
+
 # Another program's pages have that one's words.
 cat >other <<'END'
 #!/bin/sh
@@ -142,6 +155,7 @@ python3 "$top/share/from_help.py" other made
 holds "the pages of another program" [ "$(ls made | tr '\n' ' ')" = "_other other.1 other.bash other.fish " ]
 printf '%s\n' 'other 7' Tells look Looks -q --quiet-too 'No word: at all' PLACE Where --far Far >words
 holds "the manual page of another program" has_words made/other.1 cat words
+holds "another program has its own exit statuses" [ "$(grep -cE '^\.SH (EXIT|SEE)' made/other.1)" = 0 ]
 printf '%s\n' look -q --quiet-too --far >words
 holds "the bash completion of another program" has_words made/other.bash cat words
 printf '%s\n' look:Looks -q --quiet-too 'No word\: at all' PLACE Where --far Far >words
@@ -172,6 +186,13 @@ holds "bash completes an option" [ "$(completed reqs --v)" = "--version " ]
 holds "bash completes a command's option" [ "$(completed reqs check --)" = "--strict --format --help " ]
 holds "bash completes an option of matrix" [ "$(completed reqs matrix --l)" = "--limit " ]
 holds "bash leaves files to the shell" [ "$(completed reqs check R)" = " " ]
+holds "bash has the values of an option" [ "$(completed reqs check --format '')" = "text json " ]
+holds "bash completes a value of an option" [ "$(completed reqs normal R --format j)" = "json " ]
+holds "bash has the values behind a =" [ "$(completed reqs same --format =)" = "text json " ]
+holds "bash completes a value behind a =" [ "$(completed reqs same --format = t)" = "text " ]
+holds "bash leaves files to the shell behind a value" [ "$(completed reqs check --format json R)" = " " ]
+holds "bash leaves files to the shell behind another option's value" [ "$(completed reqs same --assume x j)" = " " ]
+holds "bash has no values of an option without a command" [ "$(completed reqs --format j)" = " " ]
 
 # Once more, and away again.
 run "$prefix"

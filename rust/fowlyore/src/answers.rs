@@ -194,11 +194,11 @@ fn normal_version(text: &str) -> Option<Version> {
 
 impl fmt::Display for Row {
     fn fmt(&self, f: &mut fmt::Formatter<'_>) -> fmt::Result {
-        f.write_str(&self.package)?;
-        if !self.extras.is_empty() {
-            write!(f, "[{}]", self.extras.join(","))?;
+        let mut extras = self.extras.join(",");
+        if !extras.is_empty() {
+            extras = format!("[{extras}]");
         }
-        write!(f, " {}", self.outcome)
+        f.pad(&format!("{}{extras} {}", self.package, self.outcome))
     }
 }
 
@@ -233,7 +233,8 @@ impl FromStr for Conflict {
 impl fmt::Display for Conflict {
     fn fmt(&self, f: &mut fmt::Formatter<'_>) -> fmt::Result {
         let end = if self.names_prerelease { " pre" } else { "" };
-        write!(f, "{} {}{end}", self.package, numbers_of(&self.lines))
+        let numbers = numbers_of(&self.lines);
+        f.pad(&format!("{} {numbers}{end}", self.package))
     }
 }
 
@@ -259,7 +260,8 @@ impl fmt::Display for Same {
         match self {
             Same::Yes => f.pad("yes"),
             Same::No { package, marker } => {
-                write!(f, "no\n{package}\n{}", place_of(marker.as_deref()))
+                let place = place_of(marker.as_deref());
+                f.pad(&format!("no\n{package}\n{place}"))
             }
         }
     }
@@ -293,7 +295,7 @@ impl fmt::Display for Covers {
                 lines,
             } => {
                 let (place, numbers) = (place_of(marker.as_deref()), numbers_of(lines));
-                write!(f, "no\n{package}\n{place}\n{numbers}")
+                f.pad(&format!("no\n{package}\n{place}\n{numbers}"))
             }
         }
     }

@@ -5,12 +5,16 @@ use crate::native::{self, Format};
 use crate::{grammar, Bounds, Conflict, Covers, Refused, Row, Same};
 use std::str::FromStr;
 
-/// The default limit on the cases of a package.
+/// The default limit on the cases of a package. What has more is refused
+/// ([`is_of_limit`](Refused::is_of_limit)).
 pub const LIMIT: u64 = 4096;
 
 /// For each required package, by name, its extras and the highest candidate that all applicable lines accept.
 ///
 /// `requirements` has one per line, `candidates` a name and a version per line; `environment` is a JSON object.
+///
+/// Markers compare `python_version` by the environment's `python_full_version`, and 3.14.0rc1 is below 3.14: on a
+/// pre-release of Python give the release, 3.14.0, or `python_version >= '3.14'` doesn't hold there.
 ///
 /// ```
 /// use fowlyore::{check, check_text, Outcome};

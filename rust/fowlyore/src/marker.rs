@@ -20,6 +20,8 @@ const ALWAYS_HOLDS: u8 = b'1';
 const NEVER_HOLDS: u8 = b'0';
 /// The byte while the library was not called yet.
 const UNKNOWN: u8 = 0;
+/// The byte of a marker of which nothing is known but that its tree has more nodes than `Bounds::default()`.
+const BEYOND: u8 = 1;
 /// Why a call about a marker's text isn't refused.
 const IS_FEW: &str =
     "the text of a marker is read, and its tree has no more nodes than `Bounds::default()`";
@@ -296,7 +298,8 @@ impl MarkerTree {
 
     /// The conjunction: a marker that holds where both do. Its text is the two texts with `and` between them,
     /// each in brackets unless it was joined by `and` already, so that a chain of any length nests no deeper
-    /// than its parts. Makes no print and no key.
+    /// than its parts. Makes no print and no key, but the decision tree of each part that wasn't joined by these
+    /// calls, once and no further than `Bounds::default()`: whether it always holds has to be known.
     ///
     /// The brackets of a marker may be nested 256 deep. Where they would be deeper, as they may be when `and`
     /// and `or` alternate, the [`normal`](MarkerTree::normal) texts are joined, at their cost.
@@ -413,9 +416,12 @@ impl MarkerTree {
         self.within(Bounds::default()).simplify_extras(extras)
     }
 
-    /// Whether it holds in an environment, which is JSON as for `reqs check`, with extras. Makes no decision
-    /// tree. A marker that always holds does so whatever the environment and the extras are, even if they are
-    /// invalid (where that isn't found out within `Bounds::default()` it is refused for them).
+    /// Whether it holds in an environment, which is JSON as for [`check`](crate::check), with extras. A marker
+    /// that always holds does so whatever the environment and the extras are, even if they are invalid. For them
+    /// alone a decision tree is made, once and no further than `Bounds::default()`: where it isn't found out
+    /// within that, the marker is refused for them.
+    ///
+    /// On a pre-release of Python give the release as `python_full_version` ([`check`](crate::check)).
     ///
     /// ```
     /// use fowlyore::{MarkerTree, Requirement};
@@ -469,7 +475,7 @@ impl MarkerTree {
             return Ok(ALWAYS_HOLDS);
         }
         let known = self.truth.load(MemoryOrdering::Relaxed);
-        if known != UNKNOWN {
+        if known != UNKNOWN && known != BEYOND {
             return Ok(known);
         }
         let truth = native::marker_truth(&self.text, nodes)?;
@@ -492,9 +498,21 @@ impl MarkerTree {
         self.key.get_or_try_make(make)
     }
 
-    /// Whether it is found within `Bounds::default()` that it always holds.
+    /// Whether it is found within `Bounds::default()` that it always holds. That is looked for once.
     fn is_known_true(&self) -> bool {
-        matches!(self.is_always(Bounds::default().nodes), Ok(true))
+        if self.truth.load(MemoryOrdering::Relaxed) == BEYOND {
+            return false;
+        }
+        self.is_always(Bounds::default().nodes).unwrap_or_else(|_| {
+            // (another thread may know more by now, from within other bounds)
+            let _ = self.truth.compare_exchange(
+                UNKNOWN,
+                BEYOND,
+                MemoryOrdering::Relaxed,
+                MemoryOrdering::Relaxed,
+            );
+            false
+        })
     }
 
     /// What markers are compared by: all markers that always hold are equal, as are all that never do.
@@ -646,5 +664,40 @@ impl Ord for MarkerTree {
 impl Hash for MarkerTree {
     fn hash<H: Hasher>(&self, state: &mut H) {
         self.place().hash(state);
+    }
+}
+
+#[cfg(test)]
+mod tests {
+    use super::*;
+
+    #[test]
+    fn a_tree_beyond_the_bound_is_made_once() {
+        let pair = |it: usize| format!("extra == 'a{it}' and extra == 'b{it}'");
+        let hostile = (10..40).map(pair).collect::<Vec<_>>().join(" or ");
+        let (hostile, other): (MarkerTree, MarkerTree) =
+            (hostile.parse().unwrap(), "os_name == 'a'".parse().unwrap());
+        let truth = |it: &MarkerTree| it.truth.load(MemoryOrdering::Relaxed);
+        assert_eq!((truth(&hostile), truth(&other)), (UNKNOWN, UNKNOWN));
+        let joined = hostile.and(&other).unwrap();
+        assert_eq!((truth(&hostile), truth(&joined)), (BEYOND, UNKNOWN));
+        assert_eq!(truth(&hostile.clone()), BEYOND);
+        assert!(joined.as_given().ends_with(" and (os_name == 'a')"));
+        assert!(hostile.within(Bounds::default()).is_true().is_err());
+        assert_eq!(truth(&hostile), BEYOND);
+    }
+
+    #[test]
+    fn what_is_beyond_the_bound_is_known_within_another() {
+        for (text, wanted) in [
+            ("os_name == 'a' or os_name != 'a'", ALWAYS_HOLDS),
+            (NEVER, NEVER_HOLDS),
+        ] {
+            let marker = MarkerTree::given(text, BEYOND);
+            assert!(!marker.is_known_true());
+            assert_eq!(marker.truth_within(usize::MAX), Ok(wanted));
+            assert_eq!(marker.truth.load(MemoryOrdering::Relaxed), wanted);
+            assert_eq!(marker.is_known_true(), wanted == ALWAYS_HOLDS);
+        }
     }
 }

@@ -10,6 +10,8 @@ use std::fmt;
 /// assert_eq!((refused.input, refused.line, refused.start, refused.len), (1, 2, 3, 3));
 /// let refused = "foo ;".parse::<fowlyore::Requirement>().unwrap_err();
 /// assert_eq!((refused.start, refused.len), (5, 1));
+/// let refused = "foo @".parse::<fowlyore::Requirement>().unwrap_err();
+/// assert_eq!((refused.start, refused.len), (5, 0));
 /// ```
 #[derive(Clone, Debug, PartialEq, Eq, Hash)]
 pub struct Refused {
@@ -21,8 +23,9 @@ pub struct Refused {
     pub line: usize,
     /// The first byte at fault, in the line or the text.
     pub start: usize,
-    /// The number of bytes at fault, which is 1 for what is missing at the end, where there is no byte; 0 if it
-    /// is unknown.
+    /// The number of bytes at fault: 1 for what is missing, at the end or where it should stand, but 0 for a URL, a
+    /// marker's operator and an empty piece of a list; of what follows a marker all but the last character; 0 if
+    /// it is unknown.
     pub len: usize,
 }
 
@@ -37,10 +40,7 @@ impl Refused {
     #[must_use]
     pub fn is_of_clauses(&self) -> bool {
         let counted = self.excess();
-        counted.map_or(false, |it| {
-            let package = it.strip_prefix("clauses for ");
-            it == "clauses" || package.map_or(false, |name| name.bytes().all(is_of_name))
-        })
+        counted.map_or(false, |it| it == "clauses" || is_of_package(it, "clauses"))
     }
 
     /// Whether the packages of a list together have more cases than the call may make
@@ -48,6 +48,18 @@ impl Refused {
     #[must_use]
     pub fn is_of_cases(&self) -> bool {
         self.excess() == Some("cases in all")
+    }
+
+    /// Whether a package of a list has more cases than the call's `limit`.
+    ///
+    /// ```
+    /// let refused = fowlyore::conflicts(b"foo\nfoo ; os_name == 'nt'\n", 1).unwrap_err();
+    /// assert_eq!(refused.message, "requirements: more than 1 cases for foo");
+    /// assert!(refused.is_of_limit() && !refused.is_of_cases());
+    /// ```
+    #[must_use]
+    pub fn is_of_limit(&self) -> bool {
+        self.excess().map_or(false, |it| is_of_package(it, "cases"))
     }
 
     /// What there is more of than a bound, as it is said after the number. Nothing but the name of an input and
@@ -73,13 +85,20 @@ fn is_number(text: &str) -> bool {
     text.bytes().all(|it| it.is_ascii_digit())
 }
 
+/// Whether that many of something are said of one package.
+fn is_of_package(said: &str, counted: &str) -> bool {
+    let behind = said.strip_prefix(counted);
+    let package = behind.and_then(|it| it.strip_prefix(" for "));
+    package.map_or(false, |name| name.bytes().all(is_of_name))
+}
+
 fn is_of_name(byte: u8) -> bool {
     byte.is_ascii_lowercase() || byte.is_ascii_digit() || byte == b'-'
 }
 
 impl fmt::Display for Refused {
     fn fmt(&self, f: &mut fmt::Formatter<'_>) -> fmt::Result {
-        f.write_str(&self.message)
+        f.pad(&self.message)
     }
 }
 

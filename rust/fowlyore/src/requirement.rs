@@ -79,17 +79,18 @@ fn part_of<'text>(text: &'text str, place: &str) -> &'text str {
 /// ```
 impl fmt::Display for Requirement {
     fn fmt(&self, f: &mut fmt::Formatter<'_>) -> fmt::Result {
-        f.write_str(&self.name)?;
+        let mut text = self.name.clone();
         if !self.extras.is_empty() {
-            write!(f, "[{}]", self.extras.join(","))?;
+            text += &format!("[{}]", self.extras.join(","));
         }
-        f.write_str(&self.specifiers.members().join(","))?;
+        text += &self.specifiers.members().join(",");
         if let Some(url) = &self.url {
-            write!(f, " @ {url}")?;
+            text += &format!(" @ {url}");
         }
         match self.marker.to_string() {
-            marker if marker.is_empty() => Ok(()),
-            marker => write!(f, " ; {marker}"),
+            marker if marker.is_empty() => {}
+            marker => text += &format!(" ; {marker}"),
         }
+        f.pad(&text)
     }
 }

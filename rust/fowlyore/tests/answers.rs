@@ -7,9 +7,10 @@ use drawn::{escaped, Draws};
 use fowlyore::{
     check, check_json, check_text, conflicts, conflicts_json, conflicts_text, covers, covers_json,
     matrix, matrix_json, matrix_text, normal, normal_json, same, same_json, Conflict, Covers,
-    Outcome, Row, Same, LIMIT,
+    MarkerTree, Outcome, Requirement, Row, Same, Version, VersionSpecifiers, LIMIT,
 };
 use std::fmt::Display;
+use std::str::FromStr;
 
 /// Names, of which `env` is also how `matrix` begins a line that is no row.
 const NAMES: [&str; 6] = ["env", "ENV", "Foo", "b_c.d", "none", "pre"];
@@ -309,6 +310,51 @@ fn normal_lines_are_those_of_the_text() {
         counts[usize::from(json.is_err())] += 1;
     }
     assert!(counts.iter().all(|it| *it > 50), "{counts:?}");
+}
+
+#[test]
+fn prints_are_as_wide_as_they_are_asked_for() {
+    fn padded<Item: Display + FromStr>(text: &str)
+    where
+        Item::Err: std::fmt::Debug,
+    {
+        let (item, more): (Item, _) = (text.parse().unwrap(), text.chars().count() + 3);
+        assert_eq!(format!("{item:more$}|"), format!("{text}   |"));
+        assert_eq!(format!("{item:*>more$}"), format!("***{text}"));
+        assert_eq!(format!("{item:1}"), text);
+    }
+    for text in ["foo none", "foo[a,b] 1.5", "foo direct"] {
+        padded::<Row>(text);
+    }
+    for text in ["foo 1,12", "foo 1,12 pre"] {
+        padded::<Conflict>(text);
+    }
+    for text in [
+        "yes",
+        "no\nfoo\nos_name == 'nt'",
+        "no\nfoo\nall environments",
+    ] {
+        padded::<Same>(text);
+    }
+    for text in [
+        "yes",
+        "no\nfoo\nos_name == 'nt'\n1,3",
+        "no\nfoo\nall environments\n1",
+    ] {
+        padded::<Covers>(text);
+    }
+    for text in [
+        "foo",
+        "foo[a,b]>=1,<2 ; os_name == 'nt'",
+        "foo @ https://example.org/\u{e9} ; os_name == \"it's\"",
+    ] {
+        padded::<Requirement>(text);
+    }
+    padded::<Version>("1.5");
+    padded::<VersionSpecifiers>(">=1, <2");
+    padded::<MarkerTree>("os_name == 'nt'");
+    let refused = "foo>>1".parse::<Requirement>().unwrap_err();
+    assert_eq!(format!("{refused:100}"), format!("{:100}", refused.message));
 }
 
 #[test]

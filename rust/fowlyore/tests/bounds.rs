@@ -69,7 +69,13 @@ fn too_many_clauses_are_refused() {
 
 #[test]
 fn no_text_that_is_refused_makes_it_a_bound() {
-    for counted in ["nodes", "clauses", "clauses for b", "cases in all"] {
+    for counted in [
+        "nodes",
+        "clauses",
+        "clauses for b",
+        "cases for b",
+        "cases in all",
+    ] {
         let said = format!("more than 3 {counted}");
         let lists = [format!("foo=1 ; x: {said}\n"), format!(": {said}\n")];
         let markers = ["a: ", "line 3: ", "a: line 3: ", ""].map(|it| format!("{it}{said}\nb"));
@@ -77,7 +83,34 @@ fn no_text_that_is_refused_makes_it_a_bound() {
         let of_markers = markers.map(|it| it.parse::<MarkerTree>().unwrap_err());
         for refused in of_lists.iter().chain(&of_markers) {
             assert!(refused.message.contains(&said), "{refused}");
-            assert!(!refused.is_of_nodes() && !refused.is_of_clauses() && !refused.is_of_cases());
+            assert!(!refused.is_of_nodes() && !refused.is_of_clauses());
+            assert!(!refused.is_of_cases() && !refused.is_of_limit());
+        }
+    }
+}
+
+/// Which of the limit on a package's cases, and the bound on those of all, a refusal is of.
+#[test]
+fn a_limit_and_a_bound_on_cases_are_told_apart() {
+    let list = b"b-2>=2\nb-2<1 ; os_name == 'a'\nc>=2\nc<1 ; os_name == 'a'\n";
+    let few = Bounds {
+        cases: 2,
+        ..Bounds::default()
+    };
+    for (bounds, limit, message, is_of_limit) in [
+        (Bounds::default(), 1, "more than 1 cases for b-2", true),
+        (few, LIMIT, "more than 2 cases in all", false),
+    ] {
+        for refused in [
+            bounds.matrix(list, b"[]", b"", &[], limit).unwrap_err(),
+            bounds.same(list, b"d\n", limit).unwrap_err(),
+            bounds.covers(b"d\n", list, limit).unwrap_err(),
+            bounds.conflicts(list, limit).unwrap_err(),
+        ] {
+            assert!(refused.message.ends_with(message), "{refused}");
+            assert_eq!(refused.is_of_limit(), is_of_limit);
+            assert_eq!(refused.is_of_cases(), !is_of_limit);
+            assert!(!refused.is_of_nodes() && !refused.is_of_clauses());
         }
     }
 }
