@@ -7,8 +7,12 @@ use Rattle.std.proofs.lemmas.Cmp.{nat_list_eq_equiv}
 use Rattle.pep508_tree.specs.Meaning.{NodeRecord}
 use Rattle.pep508_url.specs.Vars.{Variables}
 use Rattle.reqtable_requirements.specs.LineReading.{LineRecord}
+use Rattle.reqtable_requirements.specs.Requirements.{StandsFor}
+use Rattle.reqtable_requirements.specs.declared.requirements.Line.{Line}
 use Rattle.reqtable_cases.specs.Lines.{is_named, HasTooMany}
+use Rattle.reqtable_table.specs.Given.{is_under}
 use Rattle.reqtable_packages.specs.Packages.{said_among}
+use Rattle.reqtable_packages.proofs.Standing.{named_alike}
 use Rattle.reqtable_compare.specs.declared.sides.SameError.{SameError}
 use Rattle.reqtable_compare.specs.declared.sides.SameError.TheVariants as errors
 use Rattle.reqtable_compare.specs.declared.sides.Side.TheVariants.{Left, Right}
@@ -44,6 +48,19 @@ among_all names (line ∷ said) up =
 pub all_among : (names : List (List ℕ)) (said : List LineRecord) →
     ((q : List ℕ) → list_any (bytes_eq q) names ≡ is_named q said) → said_among names said ≡ said
 all_among names said named = among_all names said (λ q h. named q ∙ h)
+
+or_false : (a : Bool) → (a || false) ≡ a
+or_false true = refl
+or_false false = refl
+
+-- the names of all lines
+pub all_named : (vars : Variables) (nodes : List NodeRecord) (lines given : List Line) (said : List LineRecord)
+    (names : List (List ℕ)) → given ≡ lines → AllZip (StandsFor vars nodes) lines said →
+    ((q : List ℕ) → list_any (bytes_eq q) names ≡ (list_any (is_under q) given || false)) →
+    (q : List ℕ) → list_any (bytes_eq q) names ≡ is_named q said
+all_named vars nodes lines given said names same h are q =
+    are q ∙ or_false (list_any (is_under q) given) ∙ ap (list_any (is_under q)) same
+    ∙ named_alike vars nodes lines said q h
 
 -- ---- errors
 

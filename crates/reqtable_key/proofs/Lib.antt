@@ -2,7 +2,9 @@ pub mod Told
 pub mod Law
 pub mod Listed
 pub mod Gathered
+pub mod Adding
 pub mod Grouped
 pub mod Assembled
+pub mod Made
 pub mod Writing
 pub mod Answered

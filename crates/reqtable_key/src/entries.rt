@@ -110,9 +110,15 @@ fn add<'a>(alloc: Global, groups: &mut Groups<'a>, entry: &'a Entry) -> Result<(
     ensures heads { OnOk result ((q : List ℕ) →
         has_group groups.new q ≡ (has_group groups.old q || is_under q (entry_seen entry.now))) }
 {
-    let trees = groups
-        .entry(entry.head.as_slice())?
-        .or_insert(Vec::new(alloc));
-    trees.push(entry.tree)?;
+    match groups.get_mut(entry.head.as_slice()) {
+        Some(trees) => {
+            trees.push(entry.tree)?;
+        }
+        None => {
+            let mut trees = Vec::new(alloc);
+            trees.push(entry.tree)?;
+            groups.insert(entry.head.as_slice(), trees)?;
+        }
+    }
     Ok(())
 }

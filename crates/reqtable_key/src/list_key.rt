@@ -62,5 +62,6 @@ pub fn key<'a>(
     let table = side_table(alloc, Side::Left, requirements, &names, interner, bounds)?;
     let entries = entries_of(alloc, lines, &table, &names)?;
     let groups = grouped(alloc, &entries)?;
-    Ok(written(alloc, interner, &groups)?)
+    let key = written(alloc, interner, &groups)?;
+    Ok(key)
 }

@@ -11,7 +11,7 @@ returns-clause-region c =
     let old = c.args.key.now.items in
     let head = component_bytes c.args.head.now in
     let bytes = component_bytes (diagram_key diagram) in
-    on_ok_weaker c.push_text-2.result _ _
+    on_ok_weaker c.push_text-2.result
     (λ is. record {
       region = (c.args.head.now, diagram);
       under = refl;
