@@ -240,6 +240,25 @@ class Read(InFolder):
             listing = read(self.write(a="foo${SPEC}\nbar${EMPTY}\nbaz ; os_name == '${UNSET}${low}'\n${MORE}\n"))
         self.assertEqual(self.texts(listing), ["foo>=1", "bar${EMPTY}", "baz ; os_name == '${UNSET}${low}'", "x"])
 
+    def test_values_of_variables_are_not_told(self):
+        """They may be secret: of a line with variables it is told as it was given."""
+        lines = [
+            "-r b.txt more words ${TOKEN}", "foo==1 -c /x/${TOKEN}", "-r ${TOKEN}.txt", "-r ${TOKEN}.txt", "-c b.txt -c ${TOKEN}",
+            "./${TOKEN}", "--index-url https://${TOKEN}@e.org", "-e ./${TOKEN}",
+        ]  # fmt: skip
+        refused = [
+            "-r ${TOKEN}/x", "-r ${TOKEN}\\\n${TOKEN}x", f"-r ${{TOKEN}}{'x' * 5000}", "--${TOKEN}", "--pre=${TOKEN}", "${MINUS}${TOKEN}",
+        ]  # fmt: skip
+        with mock.patch.dict(os.environ, {"TOKEN": "secret", "MINUS": "--"}):
+            listing = read(self.write(a="".join(f"{it}\n" for it in lines), b="bar\n", secret="baz\n"))
+            faults = [self.fault(self.write(a=f"{it}\n"))[0] for it in refused]
+        self.assertEqual([it.what for it in listing.left_out], [*lines[:2], *lines[3:6], "--index-url", "-e"])
+        self.assertEqual(self.texts(listing), ["bar", "foo==1", "baz", "bar"])
+        self.assertNotIn("secret", " ".join([*self.told(listing), *faults]))
+        whys = [it.split("\n")[1] for it in faults]
+        self.assertEqual(whys[0], "-r ${TOKEN}/x: No such file or directory")
+        self.assertEqual(whys[3:5], ["no such option: --${TOKEN}", "--pre option does not take a value"])
+
     def test_files_stand_beside_those_that_name_them(self):
         (self.folder / "sub").mkdir()
         path = self.write(a="-r sub/b.txt\n", c="three\n")
