@@ -178,6 +178,11 @@ def narrowed(text: str, condition: str) -> Tuple[str, Optional[int]]:
     return f"{front}({marker}) and {condition}", len(front)
 
 
+def _without_comment(line: str) -> str:
+    """A line of a plain list without its comment and the white space around."""
+    return (COMMENT.split(line, maxsplit=1)[0] if "#" in line else line).strip()
+
+
 class Listing:
     """A list that `read` has read. The functions on lists take it as their requirements.
 
@@ -253,9 +258,8 @@ class Listing:
         """The requirements, without comments and the white space around them. The number of one's place is that of its line
         in the file."""
         if self._plain is not None:
-            texts = self._plain.decode("utf-8", "replace").split("\n")
-            numbered = enumerate(texts if texts[-1] else texts[:-1], 1)
-            return [ListedLine(text, Place(self.path, number)) for number, text in numbered]
+            bare = map(_without_comment, self._plain.decode("utf-8", "replace").split("\n"))
+            return [ListedLine(text, Place(self.path, number)) for number, text in enumerate(bare, 1) if text]
         places = (source.place(key) for source, key in self._origins)
         return [
             ListedLine(text, place, at in self._constraints)

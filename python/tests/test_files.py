@@ -169,9 +169,16 @@ class Plain(InFolder):
             self.assertEqual(self.texts(read(self.write(a="foo @ https://${UNSET}/x.whl\n"))), ["foo @ https://e.org/x.whl"])
 
     def test_lines(self):
-        path = self.write(a="foo\n\nbar # c\n")
-        places = [Place(str(path), it) for it in (1, 2, 3)]
-        self.assertEqual(read(path).lines, list(map(ListedLine, ["foo", "", "bar # c"], places)))
+        """They are the requirements alone, each by its line in the file, by which answers number them too."""
+        path = self.write(a="# c\n foo==1  # via app\r\n\n\t\r\n  # d\nbar @ https://e.org/x#y\t# c\nfoo==2 ; os_name == '#'")
+        listing = read(path)
+        places = [Place(str(path), it) for it in (2, 6, 7)]
+        wanted = ["foo==1", "bar @ https://e.org/x#y", "foo==2 ; os_name == '#'"]
+        self.assertEqual((listing.is_plain, listing.lines), (True, list(map(ListedLine, wanted, places))))
+        self.assertEqual([fowlyore.Requirement(it.text).name for it in listing.lines], ["foo", "bar", "foo"])
+        self.assertEqual([listing.place(it).line for it in (1, 2, 7)], [1, 2, 7])
+        self.assertEqual([it.lines for it in conflicts(read(self.write(a="# c\nfoo<1\n\nfoo>1\n")))], [(2, 4)])
+        self.assertEqual(self.texts(read(self.write(a="# c\n\n \n"))), [])
 
     def test_answers_and_faults_are_those_of_the_path(self):
         for text in (

@@ -113,7 +113,7 @@ def told_by_listing(listing):
     """What a listing says; what it left out as a path is a requirement to pip's parser."""
     lines, editables = [], []
     for it in listing.lines:
-        text = re.split(r"(?:^|\s)#", it.text, maxsplit=1)[0].strip() if listing.is_plain else it.text.strip()
+        text = it.text if listing.is_plain else it.text.strip()
         if text:
             lines.append((os.path.basename(it.place.path), it.place.line, text, it.is_constraint))
     for it in listing.left_out:
