@@ -37,6 +37,8 @@ ANSWERED, DIFFERENT, REFUSED, NOT_READ, STRICT = range(5)
 Source = Union[Path, bytes]
 # What a standard stream is called.
 OUTPUT = "standard output"
+# The refusal of a part of a line, below which it is marked.
+OF_LINE = re.compile(r"(?P<where>.*, byte [0-9]+, length [0-9]+)\n(?P<why>.*)\n(?P<line>[^\n]*)\n(?P<marks> *\^+)\n*", re.S)
 # The words that name an input.
 INPUTS = ("requirements", "environment", "environments", "candidates", "left", "right", "lock")
 
@@ -132,21 +134,26 @@ def flush_output() -> None:
 
 
 def told(error: InvalidInput) -> str:
-    """What an error says, as it is shown. Where something of it is shown by its number, the marks below a line are made
-    anew, for the columns that its part at fault has then."""
-    said = str(error)
-    front, _, marks = said.rpartition("\n")
-    front, _, line = front.rpartition("\n")
-    text, start, end = error.text or "", error.start, error.end
-    if start is None or end is None or not (line and text.startswith(line) and marks.endswith("^")) or shown(said) == said:
-        return shown(said)
-    blanks, count = columns(shown(text[:start])), max(1, columns(shown(text[start:end])))
-    return f"{shown(front)}\n{shown(line)}\n{' ' * blanks}{'^' * count}"
+    """What an error says, as it is shown: one sentence; or where it stands, why, the line, and marks below that. Where something
+    of the line is shown by its number, the marks are made anew, for the columns that its part at fault has then."""
+    said, path = str(error), f"{error.path}: "
+    found = OF_LINE.fullmatch(said, len(path) if said.startswith(path) else 0)
+    if found is None or error.text is None or not error.text.startswith(found["line"]):
+        return on_one_line(said)
+    text, start, end, line, marks = error.text, error.start, error.end, shown(found["line"]), found["marks"]
+    if start is not None and end is not None and line != found["line"]:
+        marks = " " * columns(shown(text[:start])) + "^" * max(1, columns(shown(text[start:end])))
+    return "\n".join([on_one_line(said[: found.end("where")]), on_one_line(found["why"]), line, marks])
+
+
+def on_one_line(sentence: str) -> str:
+    """A sentence as it is shown. A line feed is in it only by what others have named, as a file, and is shown by its number."""
+    return shown(sentence).replace("\n", "\\u{a}")
 
 
 def complain(sentence: str) -> None:
     """Prints a sentence on standard error."""
-    show_error(f"fowlyore: {shown(sentence)}")
+    show_error(f"fowlyore: {on_one_line(sentence)}")
 
 
 def show_error(text: str) -> None:
@@ -167,7 +174,7 @@ class Parser(argparse.ArgumentParser):
         if sys.stderr is None:
             self.exit(REFUSED)
         # (words are named in it as they were given)
-        super().error(shown(message))
+        super().error(on_one_line(message))
 
     def _print_message(self, message: str, file: Any = None) -> None:
         if file is not None and file is sys.stderr:
@@ -468,7 +475,7 @@ def status_of(words: Optional[List[str]]) -> int:
     try:
         return run(parser().parse_args(words))
     except InvalidInput as error:
-        complain(told(error))
+        show_error(f"fowlyore: {told(error)}")
         return REFUSED
     except BrokenPipeError:
         discard(sys.stdout)

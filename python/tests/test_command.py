@@ -1,6 +1,7 @@
 """The command line."""
 
 import io
+import json
 import os
 import pathlib
 import resource
@@ -114,6 +115,39 @@ class Commands(unittest.TestCase):
         for words, said in ((["a", "b\x1b[2J"], r"b\u{1b}[2J"), (["a", "--\x9b"], r"--\u{9b}"), (["a", "--ex\u202e"], r"--ex\u{202e}")):
             status, out, err = run("check", *words)
             self.assertEqual((status, out, err.split("\n")[-2]), (2, "", f"fowlyore: error: unrecognized arguments: {said}"))
+
+    def test_line_feeds_of_names(self):
+        """Names that others choose make no lines of their own: a line feed in one is shown by its number."""
+        with tempfile.TemporaryDirectory() as room:
+            folder, forged = pathlib.Path(room, "a\nfowlyore: b"), "x\nfowlyore: all is well"
+            shown_folder, shown_forged = str(folder).replace("\n", r"\u{a}"), forged.replace("\n", r"\u{a}")
+            folder.mkdir()
+            path, page, house = folder / "r.txt", folder / "foo.json", folder / "house"
+            house.mkdir()
+            (house / f"{forged}.whl").touch()
+            page.write_text(json.dumps({"meta": {"api-version": "1.0"}, "name": "foo", "files": [{"filename": f"{forged}.whl"}]}))
+            path.write_text("foo\n")
+            for words in (["--candidates", page], ["--wheelhouse", house]):
+                status, out, err = run("check", path, *words)
+                self.assertEqual((status, out), (0, "foo none\n"))
+                self.assertIn(shown_forged, err)
+                self.assertNotIn("\nfowlyore: all is well", err)
+            status, out, err = run("check", folder / forged)
+            self.assertEqual((status, out), (3, ""))
+            self.assertEqual(err, f"fowlyore: {shown_folder}/{shown_forged}: No such file or directory\n")
+            path.write_text("foo=1\n")
+            status, out, err = run("normal", path)
+            self.assertEqual((status, err.split("\n")[0]), (2, f"fowlyore: {shown_folder}/r.txt: line 1, byte 3, length 2"))
+            self.assertEqual(err.split("\n")[2:], ["foo=1", "   ^^", ""])
+            path.write_text("-r absent.txt\n")
+            said = f"line 1, byte 3, length 10\n{shown_folder}/absent.txt: No such file or directory\n-r absent.txt\n   {'^' * 10}\n"
+            self.assertEqual(run("normal", path), (2, "", f"fowlyore: {shown_folder}/r.txt: {said}"))
+            path.write_text("foo @ https://e.org/x\n")
+            status, out, err = run("normal", path)
+            self.assertEqual((status, out, err.count("\n")), (2, "", 1))
+            self.assertTrue(err.startswith(f"fowlyore: {shown_folder}/r.txt: line 1: "), err)
+        status, out, err = run("check", "a", forged)
+        self.assertEqual((status, err.split("\n")[-2]), (2, f"fowlyore: error: unrecognized arguments: {shown_forged}"))
 
     def test_words(self):
         self.assertEqual(run("--version"), (0, f"fowlyore {__version__}\n", ""))
