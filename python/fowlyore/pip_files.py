@@ -34,6 +34,8 @@ _VARIABLE = re.compile(r"\$\{([A-Z0-9_]+)\}")
 _URL = re.compile(r"(?:https?|file):", re.I)
 # What ends a line, or is white space, for pip alone; and what stands in no comment where something may be pip's.
 _ENDS = (b"\\\n", b"\\\r", b"\x0b", b"\x0c", b"\x1c", b"\x1d", b"\x1e", b"\x1f")
+# What ends a line for pip but not for the library, and the one character that ends no line and is white space for pip alone.
+_OTHER_LINES = re.compile("[\x0b\x0c\x1c-\x1f\x85\u2028\u2029]|\r(?!\n)")
 _ARCHIVES = (".whl", ".zip", ".tar", ".tgz", ".tbz", ".txz", ".tlz")
 _SIGNS = (b" -", b"\n-", b"${", b"/", b"\n.", *(it.encode() for it in _ARCHIVES))
 # What pip takes for a path, an archive or a URL without a name, where the library reads no requirement.
@@ -94,11 +96,7 @@ class _File(Source):
     def __init__(self, path: str, text: str) -> None:
         self.path = path
         self.lines = text.splitlines()
-        count = text.count("\n") + (text[-1:] not in ("", "\n"))
-        # (most files have no other end of a line than a line feed)
-        self.has_hidden_lines = len(self.lines) != count and any(map(_hides_lines, text.split("\n")))
-        # (the one white space of pip that ends no line, and after which the library sees no comment)
-        self.has_hidden_lines |= "\x1f#" in text
+        self.has_other_lines = bool(_OTHER_LINES.search(text))
         low = text.lower()
         self.has_archives = "${" in text or any(it in low for it in _ARCHIVES)
 
@@ -195,29 +193,6 @@ def _unexpanded(text: str, at: int, is_end: bool) -> int:
             return found.end() if is_end and at > found.start() else found.start()
         at += len(found[0]) - len(value)
     return min(at, len(text))
-
-
-def _hides_lines(line: str) -> bool:
-    """Whether a line, which ends in a line feed, has for the library a comment, or a URL, that goes over lines which are others
-    for pip."""
-    is_comment = is_url = False
-    for it in line.splitlines():
-        front, *comment = COMMENT.split(it, maxsplit=1)
-        # (in a URL a `#` may begin no comment)
-        if is_comment and front.strip() or is_url and it.strip():
-            return True
-        is_comment = is_comment or bool(comment)
-        is_url = is_url or "@" in front and _ends_in_url(front)
-    return False
-
-
-def _ends_in_url(text: str) -> bool:
-    """Whether a text is a requirement with a URL and nothing after it."""
-    try:
-        parts = _native.requirement(_native.encoded(text))
-    except _native.Fault:
-        return False
-    return bool(parts.url) and parts.marker is None
 
 
 def _logical_lines(lines: List[str]) -> Iterator[Tuple[int, str]]:
@@ -369,7 +344,7 @@ class _Reading:
 
     def _read(self, file: _File, is_constraint: bool) -> None:
         """Takes in the lines of a file, and where it names another one those of that."""
-        self.is_pips |= file.has_hidden_lines or any(it.endswith("\\") and not _IS_COMMENT.match(it) for it in file.lines)
+        self.is_pips |= file.has_other_lines or any(it.endswith("\\") and not _IS_COMMENT.match(it) for it in file.lines)
         for number, text in _logical_lines(file.lines):
             line = _Line(file, number, text)
             if "${" in text:

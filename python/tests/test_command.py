@@ -193,12 +193,15 @@ class Commands(unittest.TestCase):
         ):
             self.assertEqual(run(*words), (2, "", "fowlyore: standard input (-) can be one input alone\n"), words)
 
-    def test_lines_end_at_a_line_feed_alone(self):
+    def test_where_lines_end(self):
+        """As for pip, on the command line, and in a list that is given as a path at a line feed alone."""
         with tempfile.TemporaryDirectory() as folder:
             path = pathlib.Path(folder, "requirements.txt")
+            path.write_bytes("foo\u2028bar\x85baz\n".encode())
+            self.assertEqual(run("normal", path), (0, "foo\nbar\nbaz\n", ""))
             text = "foo ; platform_version == 'a\u2028b'\nbar ; platform_version == 'a\x85b'\n"
             path.write_bytes(text.encode())
-            self.assertEqual(run("normal", path), (0, text, ""))
+            self.assertEqual((normal(path), run("normal", path)[0]), (text.split("\n")[:-1], 2))
 
     def test_empty_words(self):
         """They name no file, and not the working folder, which has a project here, and candidates."""
@@ -243,7 +246,7 @@ class Process(unittest.TestCase):
     def test_other_encodings(self):
         for it in ("ascii", "latin-1", "utf-16"):
             environment = {**os.environ, "PYTHONIOENCODING": it}
-            text = "foo ; platform_version == '\u00e9\u2028'\n".encode()
+            text = "foo ; platform_version == '\u00e9\u2603'\n".encode()
             ran = self.run_module("normal", "-", input=text, env=environment)
             self.assertEqual((ran.returncode, ran.stdout, ran.stderr), (0, text, b""), it)
             ran = self.run_module("normal", "-", input=text + "\u00e9".encode(), env=environment)

@@ -107,20 +107,31 @@ class Plain(InFolder):
             b"\n",
             b"foo\r\n# c\n\n bar>=1 # x\\y",
             b"foo ; platform_version == 'a -b'\n",
-            b"a\x0cb\n",
             b"\xff\n",
             "é".encode(),
         ):
             listing = read(self.write(a=data))
             self.assertEqual((listing.is_plain, listing.text, listing.left_out), (True, data, ()), data)
 
-    def test_lines_that_a_comment_hides(self):
-        """Where a comment goes over what ends a line for pip alone, what follows is a line as it is for pip."""
-        for end in ("\r", "\x0b", "\x0c", "\x1c", "\x85", "\u2028"):
-            for text, wanted in ((f"# c{end}bar\n", ["bar"]), (f"foo # c{end}# d{end} bar>=1 # e\n", ["foo", "bar>=1"])):
-                self.assertEqual(normal(read(self.write(a=text))), wanted, ascii(text))
-            for text in (f"foo # c{end}\n", f"# c{end}# d\n{end}\nfoo{end}\n", f"foo ; platform_version == 'a{end}b'\n"):
-                self.assertTrue(read(self.write(a=text)).is_plain, ascii(text))
+    def test_what_ends_a_line_for_pip_alone(self):
+        """The lines are those of pip, whether or not another line is pip's."""
+        for end in ("\r", "\x0b", "\x0c", "\x1c", "\x1d", "\x1e", "\x85", "\u2028", "\u2029"):
+            for text, wanted in (
+                (f"foo{end}bar\n", ["foo", "bar"]), (f"foo{end}\n\n{end}\n bar{end}", ["foo", "bar"]),
+                (f"# c{end}bar\n", ["bar"]), (f"foo # c{end}# d{end} bar>=1 # e\n", ["foo", "bar>=1"]), (f"foo # c{end}\n", ["foo"]),
+            ):  # fmt: skip
+                for front in ("", "--pre\n"):
+                    listing = read(self.write(a=f"{front}{text}"))
+                    self.assertEqual((normal(listing), self.texts(listing)), (wanted, wanted), ascii(text))
+            for front in ("", "--pre\n"):
+                self.refused(normal, read(self.write(a=f"{front}foo ; platform_version == 'a{end}b'\n")))
+        self.assertTrue(read(self.write(a="foo\r\n\r\nbar\r\n# é\n")).is_plain)
+
+    def test_what_is_white_space_for_pip_alone(self):
+        for text in ("\x1f\nfoo\n", "foo\x1f\n", "\x1ffoo\n\n", "foo\x1f# c\n"):
+            for front in ("", "--pre\n"):
+                listing = read(self.write(a=f"{front}{text}"))
+                self.assertEqual((normal(listing), self.texts(listing)), (["foo"], ["foo"]), ascii(text))
 
     def test_lines_that_a_url_hides(self):
         """As those that a comment hides: for the library a URL may have in it what ends a line for pip."""
@@ -129,8 +140,7 @@ class Plain(InFolder):
                 listing = read(self.write(a=text))
                 wanted = ["a @ https://e.org/x", "bar>=1"][:count]
                 self.assertEqual(([it.text for it in listing.lines], len(check(listing, ENVIRONMENT, ""))), (wanted, count), ascii(text))
-            for text in (f"a @ https://e.org/x{end} {end}\n", f"a ; platform_version == '@{end}b'\n"):
-                self.assertTrue(read(self.write(a=text)).is_plain, ascii(text))
+            self.assertEqual(self.texts(read(self.write(a=f"a @ https://e.org/x{end} {end}\n"))), wanted[:1])
         listing = read(self.write(a="a @ https://e.org/x\x1f#c ; os_name == 'nt'\n"))
         self.assertEqual([it.text for it in listing.lines], ["a @ https://e.org/x"])
 
