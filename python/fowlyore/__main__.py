@@ -237,7 +237,8 @@ def add_check(commands: Any) -> None:
     environment = it.add_mutually_exclusive_group()
     of_values = "a file of all values for markers (else this interpreter's)"
     environment.add_argument("--environment", metavar="JSON", help=of_values)
-    environment.add_argument("--python-version", metavar="VERSION", help="this interpreter's values, but of another version")
+    of_version = "this interpreter's values, but of another version (implementation_version only on CPython)"
+    environment.add_argument("--python-version", metavar="VERSION", help=of_version)
     add_candidates(it)
     it.add_argument("--explain", action="store_true", help="say below each none which lines refuse the greatest candidates")
     it.add_argument("--strict", action="store_true", help="status 4 where a row is none")
@@ -334,13 +335,15 @@ def environment_of(words: argparse.Namespace) -> Any:
 
 
 def versions_of(full: str) -> Dict[str, str]:
-    """Both values for an interpreter of this version. An invalid version is left to the library, which
+    """The values for an interpreter of this version. An invalid version is left to the library, which
     refuses it."""
     try:
         version = Version(full)
     except InvalidVersion:
         return {"python_version": full}
-    return {"python_full_version": full, "python_version": f"{version.major}.{version.minor}"}
+    values = {"python_full_version": full, "python_version": f"{version.major}.{version.minor}"}
+    # (the version of another implementation isn't that of the language)
+    return {**values, "implementation_version": full} if sys.implementation.name == "cpython" else values
 
 
 def run_check(words: argparse.Namespace) -> int:

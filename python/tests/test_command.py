@@ -10,6 +10,7 @@ import sys
 import tempfile
 import unittest
 from contextlib import redirect_stderr, redirect_stdout
+from unittest import mock
 
 from fowlyore import InvalidInput, __version__, normal
 from fowlyore.__main__ import main, shown
@@ -148,6 +149,16 @@ class Commands(unittest.TestCase):
             self.assertTrue(err.startswith(f"fowlyore: {shown_folder}/r.txt: line 1: "), err)
         status, out, err = run("check", "a", forged)
         self.assertEqual((status, err.split("\n")[-2]), (2, f"fowlyore: error: unrecognized arguments: {shown_forged}"))
+
+    def test_python_version(self):
+        """On CPython the version of the implementation is that of the language; of another one it stays."""
+        with tempfile.TemporaryDirectory() as folder:
+            path = pathlib.Path(folder, "requirements.txt")
+            path.write_text("a ; implementation_version == '3.8.1'\nb ; python_full_version == '3.8.1'\nc ; python_version == '3.8'\n")
+            words = ["check", path, "--candidates", os.devnull, "--python-version", "3.8.1"]
+            for name, wanted in (("cpython", "a none\nb none\nc none\n"), ("pypy", "b none\nc none\n")):
+                with mock.patch.object(sys.implementation, "name", name):
+                    self.assertEqual(run(*words), (0, wanted, ""), name)
 
     def test_words(self):
         self.assertEqual(run("--version"), (0, f"fowlyore {__version__}\n", ""))
