@@ -43,8 +43,8 @@ OF_LINE = re.compile(r"(?P<where>.*, byte [0-9]+, length [0-9]+)\n(?P<why>.*)\n(
 INPUTS = ("requirements", "environment", "environments", "candidates", "left", "right", "lock")
 
 STATUSES = """exit status: 0 after an answer, 1 where `same` or `covers` said no, 2 where an input or the command line is refused,
-3 where memory ran out or a file can't be read or written, as a standard stream that is closed, and 4 where a row is none with
---strict.
+3 where memory ran out or a file can't be read or written, as a standard stream that is closed, and 4 with --strict where a row is
+none or there is a conflict.
 FILE may be `-` once, for standard input. It is a requirements file of pip, as a list with a requirement (PEP 508) a line is one,
 unless its name says otherwise: pyproject.toml, pylock.toml, METADATA, PKG-INFO, *.whl, *.tar.gz, or the folder of a project or of an
 installed distribution."""
@@ -211,6 +211,7 @@ def parser() -> argparse.ArgumentParser:
     it = add(commands, "conflicts", "print the lines of a list that contradict each other where they apply together")
     it.add_argument("requirements", metavar="FILE", help="the list")
     add_limit(it)
+    it.add_argument("--strict", action="store_true", help="status 4 where there is a conflict")
     it = add(commands, "normal", "print a list in its one normal form")
     it.add_argument("requirements", metavar="FILE", help="the list")
     return words
@@ -422,9 +423,10 @@ def show_relation(answer: Union[Comparison, Covering]) -> int:
 
 
 def run_conflicts(words: argparse.Namespace) -> int:
-    for it in conflicts(tell_assumed(listing(words.requirements, words.group)), words.limit):
+    found = conflicts(tell_assumed(listing(words.requirements, words.group)), words.limit)
+    for it in found:
         show(it)
-    return ANSWERED
+    return STRICT if words.strict and found else ANSWERED
 
 
 def run_normal(words: argparse.Namespace) -> int:

@@ -160,6 +160,11 @@ class Commands(unittest.TestCase):
                 with mock.patch.object(sys.implementation, "name", name):
                     self.assertEqual(run(*words), (0, wanted, ""), name)
 
+    def test_strict_conflicts(self):
+        expected = (EXAMPLES / "apart" / "expected_conflicts.txt").read_text()
+        self.assertEqual(run("conflicts", EXAMPLES / "apart" / "requirements.txt", "--strict"), (4, expected, ""))
+        self.assertEqual(run("conflicts", FIRST / "requirements.txt", "--strict"), (0, "", ""))
+
     def test_words(self):
         self.assertEqual(run("--version"), (0, f"fowlyore {__version__}\n", ""))
         for words in ((), ("chekc",), ("same", "a"), ("check", "a", "--limit", "3"), ("conflicts", "a", "--limit", "x")):
