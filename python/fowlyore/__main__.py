@@ -37,12 +37,14 @@ ANSWERED, DIFFERENT, REFUSED, NOT_READ, STRICT = range(5)
 Source = Union[Path, bytes]
 # What a standard stream is called.
 OUTPUT = "standard output"
+# The refusal of a part of a line, below which it is marked.
+OF_LINE = re.compile(r"(?P<where>.*, byte [0-9]+, length [0-9]+)\n(?P<why>.*)\n(?P<line>[^\n]*)\n(?P<marks> *\^+)\n*", re.S)
 # The words that name an input.
 INPUTS = ("requirements", "environment", "environments", "candidates", "left", "right", "lock")
 
 STATUSES = """exit status: 0 after an answer, 1 where `same` or `covers` said no, 2 where an input or the command line is refused,
-3 where memory ran out or a file can't be read or written, as a standard stream that is closed, and 4 where a row is none with
---strict.
+3 where memory ran out or a file can't be read or written, as a standard stream that is closed, and 4 with --strict where a row is
+none or there is a conflict.
 FILE may be `-` once, for standard input. It is a requirements file of pip, as a list with a requirement (PEP 508) a line is one,
 unless its name says otherwise: pyproject.toml, pylock.toml, METADATA, PKG-INFO, *.whl, *.tar.gz, or the folder of a project or of an
 installed distribution."""
@@ -132,21 +134,26 @@ def flush_output() -> None:
 
 
 def told(error: InvalidInput) -> str:
-    """What an error says, as it is shown. Where something of it is shown by its number, the marks below a line are made
-    anew, for the columns that its part at fault has then."""
-    said = str(error)
-    front, _, marks = said.rpartition("\n")
-    front, _, line = front.rpartition("\n")
-    text, start, end = error.text or "", error.start, error.end
-    if start is None or end is None or not (line and text.startswith(line) and marks.endswith("^")) or shown(said) == said:
-        return shown(said)
-    blanks, count = columns(shown(text[:start])), max(1, columns(shown(text[start:end])))
-    return f"{shown(front)}\n{shown(line)}\n{' ' * blanks}{'^' * count}"
+    """What an error says, as it is shown: one sentence; or where it stands, why, the line, and marks below that. Where something
+    of the line is shown by its number, the marks are made anew, for the columns that its part at fault has then."""
+    said, path = str(error), f"{error.path}: "
+    found = OF_LINE.fullmatch(said, len(path) if said.startswith(path) else 0)
+    if found is None or error.text is None or not error.text.startswith(found["line"]):
+        return on_one_line(said)
+    text, start, end, line, marks = error.text, error.start, error.end, shown(found["line"]), found["marks"]
+    if start is not None and end is not None and line != found["line"]:
+        marks = " " * columns(shown(text[:start])) + "^" * max(1, columns(shown(text[start:end])))
+    return "\n".join([on_one_line(said[: found.end("where")]), on_one_line(found["why"]), line, marks])
+
+
+def on_one_line(sentence: str) -> str:
+    """A sentence as it is shown. A line feed is in it only by what others have named, as a file, and is shown by its number."""
+    return shown(sentence).replace("\n", "\\u{a}")
 
 
 def complain(sentence: str) -> None:
     """Prints a sentence on standard error."""
-    show_error(f"fowlyore: {shown(sentence)}")
+    show_error(f"fowlyore: {on_one_line(sentence)}")
 
 
 def show_error(text: str) -> None:
@@ -167,7 +174,7 @@ class Parser(argparse.ArgumentParser):
         if sys.stderr is None:
             self.exit(REFUSED)
         # (words are named in it as they were given)
-        super().error(shown(message))
+        super().error(on_one_line(message))
 
     def _print_message(self, message: str, file: Any = None) -> None:
         if file is not None and file is sys.stderr:
@@ -204,6 +211,7 @@ def parser() -> argparse.ArgumentParser:
     it = add(commands, "conflicts", "print the lines of a list that contradict each other where they apply together")
     it.add_argument("requirements", metavar="FILE", help="the list")
     add_limit(it)
+    it.add_argument("--strict", action="store_true", help="status 4 where there is a conflict")
     it = add(commands, "normal", "print a list in its one normal form")
     it.add_argument("requirements", metavar="FILE", help="the list")
     return words
@@ -230,7 +238,8 @@ def add_check(commands: Any) -> None:
     environment = it.add_mutually_exclusive_group()
     of_values = "a file of all values for markers (else this interpreter's)"
     environment.add_argument("--environment", metavar="JSON", help=of_values)
-    environment.add_argument("--python-version", metavar="VERSION", help="this interpreter's values, but of another version")
+    of_version = "this interpreter's values, but of another version (implementation_version only on CPython)"
+    environment.add_argument("--python-version", metavar="VERSION", help=of_version)
     add_candidates(it)
     it.add_argument("--explain", action="store_true", help="say below each none which lines refuse the highest candidates")
     it.add_argument("--strict", action="store_true", help="status 4 where a row is none")
@@ -327,13 +336,15 @@ def environment_of(words: argparse.Namespace) -> Any:
 
 
 def versions_of(full: str) -> Dict[str, str]:
-    """Both values for an interpreter of this version. An invalid version is left to the library, which
+    """The values for an interpreter of this version. An invalid version is left to the library, which
     refuses it."""
     try:
         version = Version(full)
     except InvalidVersion:
         return {"python_version": full}
-    return {"python_full_version": full, "python_version": f"{version.major}.{version.minor}"}
+    values = {"python_full_version": full, "python_version": f"{version.major}.{version.minor}"}
+    # (the version of another implementation isn't that of the language)
+    return {**values, "implementation_version": full} if sys.implementation.name == "cpython" else values
 
 
 def run_check(words: argparse.Namespace) -> int:
@@ -412,9 +423,10 @@ def show_relation(answer: Union[Comparison, Covering]) -> int:
 
 
 def run_conflicts(words: argparse.Namespace) -> int:
-    for it in conflicts(tell_assumed(listing(words.requirements, words.group)), words.limit):
+    found = conflicts(tell_assumed(listing(words.requirements, words.group)), words.limit)
+    for it in found:
         show(it)
-    return ANSWERED
+    return STRICT if words.strict and found else ANSWERED
 
 
 def run_normal(words: argparse.Namespace) -> int:
@@ -468,7 +480,7 @@ def status_of(words: Optional[List[str]]) -> int:
     try:
         return run(parser().parse_args(words))
     except InvalidInput as error:
-        complain(told(error))
+        show_error(f"fowlyore: {told(error)}")
         return REFUSED
     except BrokenPipeError:
         discard(sys.stdout)

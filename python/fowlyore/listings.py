@@ -108,6 +108,11 @@ class Source:
         """Where a part of the line stands, which is given in characters of what is handed over."""
         raise NotImplementedError
 
+    def given(self, key: int, start: int, end: int) -> str:
+        """A part of the line as it was written, without the values of variables."""
+        at = self.located(key, start, end)
+        return at.text[at.start : at.end]
+
 
 Origin = Tuple[Source, int]
 
@@ -142,8 +147,14 @@ class _Narrowed(Source):
 
     def located(self, key: int, start: int, end: int) -> Located:
         source, inner = self._origin
-        begin, stop = (_before(it, self._bracket, self._given) for it in (start, end))
-        return source.located(inner, begin, stop)
+        return source.located(inner, *self._narrow(start, end))
+
+    def given(self, key: int, start: int, end: int) -> str:
+        source, inner = self._origin
+        return source.given(inner, *self._narrow(start, end))
+
+    def _narrow(self, *places: int) -> Tuple[int, ...]:
+        return tuple(_before(it, self._bracket, self._given) for it in places)
 
 
 def _before(at: int, bracket: Optional[int], given: str) -> int:
@@ -165,6 +176,11 @@ def narrowed(text: str, condition: str) -> Tuple[str, Optional[int]]:
         return f"{text} ; {condition}", None
     front = text[: len(text) - len(marker)]
     return f"{front}({marker}) and {condition}", len(front)
+
+
+def _without_comment(line: str) -> str:
+    """A line of a plain list without its comment and the white space around."""
+    return (COMMENT.split(line, maxsplit=1)[0] if "#" in line else line).strip()
 
 
 class Listing:
@@ -239,11 +255,11 @@ class Listing:
 
     @property
     def lines(self) -> List[ListedLine]:
-        """The lines, of a plain list those of its file."""
+        """The requirements, without comments and the white space around them. The number of one's place is that of its line
+        in the file."""
         if self._plain is not None:
-            texts = self._plain.decode("utf-8", "replace").split("\n")
-            numbered = enumerate(texts if texts[-1] else texts[:-1], 1)
-            return [ListedLine(text, Place(self.path, number)) for number, text in numbered]
+            bare = map(_without_comment, self._plain.decode("utf-8", "replace").split("\n"))
+            return [ListedLine(text, Place(self.path, number)) for number, text in enumerate(bare, 1) if text]
         places = (source.place(key) for source, key in self._origins)
         return [
             ListedLine(text, place, at in self._constraints)
@@ -265,6 +281,11 @@ class Listing:
         """Where a part of the line of a number came from, for a list that isn't plain."""
         source, key = self._origins[number - 1]
         return source.located(key, start, end)
+
+    def given(self, number: int, start: int, end: int) -> str:
+        """A part of the line of a number as it was written, without the values of variables, for a list that isn't plain."""
+        source, key = self._origins[number - 1]
+        return source.given(key, start, end)
 
     def without_constraints(self) -> "Listing":
         """A list that asks for the same without constraints. One on a package for which some line asks

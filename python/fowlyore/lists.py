@@ -265,8 +265,11 @@ def _warn_of_urls(given: Input) -> None:
     """Warns of each line whose URL ends in a marker."""
     for number, line in enumerate(given.text.split(b"\n"), 1):
         if _WITH_URL.search(line):
-            url = _url_of(COMMENT.split(line.decode("utf-8", "replace"), maxsplit=1)[0])
-            warn_of_marker_in(url, f"{given.place(number)}: ")
+            text = COMMENT.split(line.decode("utf-8", "replace"), maxsplit=1)[0]
+            url = _url_of(text)
+            at, listing = text.rfind(url), given.listing
+            written = listing.given(number, at, at + len(url)) if listing and url else url
+            warn_of_marker_in(url, f"{given.place(number)}: ", written)
 
 
 def _url_of(text: str) -> str:

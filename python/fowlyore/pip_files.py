@@ -34,6 +34,8 @@ _VARIABLE = re.compile(r"\$\{([A-Z0-9_]+)\}")
 _URL = re.compile(r"(?:https?|file):", re.I)
 # What ends a line, or is white space, for pip alone; and what stands in no comment where something may be pip's.
 _ENDS = (b"\\\n", b"\\\r", b"\x0b", b"\x0c", b"\x1c", b"\x1d", b"\x1e", b"\x1f")
+# What ends a line for pip but not for the library, and the one character that ends no line and is white space for pip alone.
+_OTHER_LINES = re.compile("[\x0b\x0c\x1c-\x1f\x85\u2028\u2029]|\r(?!\n)")
 _ARCHIVES = (".whl", ".zip", ".tar", ".tgz", ".tbz", ".txz", ".tlz")
 _SIGNS = (b" -", b"\n-", b"${", b"/", b"\n.", *(it.encode() for it in _ARCHIVES))
 # What pip takes for a path, an archive or a URL without a name, where the library reads no requirement.
@@ -94,11 +96,7 @@ class _File(Source):
     def __init__(self, path: str, text: str) -> None:
         self.path = path
         self.lines = text.splitlines()
-        count = text.count("\n") + (text[-1:] not in ("", "\n"))
-        # (most files have no other end of a line than a line feed)
-        self.has_hidden_lines = len(self.lines) != count and any(map(_hides_lines, text.split("\n")))
-        # (the one white space of pip that ends no line, and after which the library sees no comment)
-        self.has_hidden_lines |= "\x1f#" in text
+        self.has_other_lines = bool(_OTHER_LINES.search(text))
         low = text.lower()
         self.has_archives = "${" in text or any(it in low for it in _ARCHIVES)
 
@@ -106,9 +104,18 @@ class _File(Source):
         return Place(self.path, key)
 
     def located(self, key: int, start: int, end: int) -> Located:
+        _, begin, stop = self._unexpanded(key, start, end)
+        return self.part(key, begin, stop)
+
+    def given(self, key: int, start: int, end: int) -> str:
+        text, begin, stop = self._unexpanded(key, start, end)
+        return text[begin:stop]
+
+    def _unexpanded(self, key: int, start: int, end: int) -> Tuple[str, int, int]:
+        """A line before its variables were replaced, and where a part of it stands there."""
         parts, _ = _parts_of(self.lines, key - 1)
         text = "".join([it.text for it in parts]).strip()
-        return self.part(key, _unexpanded(text, start, is_end=False), _unexpanded(text, end, is_end=True))
+        return text, _unexpanded(text, start, is_end=False), _unexpanded(text, end, is_end=True)
 
     def part(self, key: int, start: int, end: int) -> Located:
         """Where a part of a line stands, which is given before variables are replaced. Of one that goes over
@@ -119,6 +126,23 @@ class _File(Source):
         stop = min(at + end - start, len(within.text))
         columns = (max(0, within.column + it) for it in (at, stop))
         return Located(Place(self.path, within.line + 1), self.lines[within.line], *columns)
+
+
+class _Line(NamedTuple):
+    """A line while it is read: its file, its number, and its text before variables were replaced."""
+
+    file: _File
+    number: int
+    given: str
+
+    @property
+    def place(self) -> Place:
+        return Place(self.file.path, self.number)
+
+    def said(self, text: str) -> str:
+        """A text that was made of the line, for a message: of a line with variables, whose values may be secret, it is the line
+        as it was given."""
+        return self.given if "${" in self.given else text
 
 
 class _Part(NamedTuple):
@@ -169,29 +193,6 @@ def _unexpanded(text: str, at: int, is_end: bool) -> int:
             return found.end() if is_end and at > found.start() else found.start()
         at += len(found[0]) - len(value)
     return min(at, len(text))
-
-
-def _hides_lines(line: str) -> bool:
-    """Whether a line, which ends in a line feed, has for the library a comment, or a URL, that goes over lines which are others
-    for pip."""
-    is_comment = is_url = False
-    for it in line.splitlines():
-        front, *comment = COMMENT.split(it, maxsplit=1)
-        # (in a URL a `#` may begin no comment)
-        if is_comment and front.strip() or is_url and it.strip():
-            return True
-        is_comment = is_comment or bool(comment)
-        is_url = is_url or "@" in front and _ends_in_url(front)
-    return False
-
-
-def _ends_in_url(text: str) -> bool:
-    """Whether a text is a requirement with a URL and nothing after it."""
-    try:
-        parts = _native.requirement(_native.encoded(text))
-    except _native.Fault:
-        return False
-    return bool(parts.url) and parts.marker is None
 
 
 def _logical_lines(lines: List[str]) -> Iterator[Tuple[int, str]]:
@@ -343,16 +344,15 @@ class _Reading:
 
     def _read(self, file: _File, is_constraint: bool) -> None:
         """Takes in the lines of a file, and where it names another one those of that."""
-        self.is_pips |= file.has_hidden_lines or any(it.endswith("\\") and not _IS_COMMENT.match(it) for it in file.lines)
+        self.is_pips |= file.has_other_lines or any(it.endswith("\\") and not _IS_COMMENT.match(it) for it in file.lines)
         for number, text in _logical_lines(file.lines):
-            given = text
+            line = _Line(file, number, text)
             if "${" in text:
-                text = self._expanded(file, number, text)
+                text = self._expanded(line)
             if text[:1] == "-" or " -" in text:
-                text = self._without_options(file, number, text)
+                text = self._without_options(line, text)
             may_be_path = file.has_archives or "/" in text or text[:1] == "."
-            # (what variables stand for may be secret)
-            if may_be_path and self._is_left_out(file, number, text, given if "${" in given else text):
+            if may_be_path and self._is_left_out(line, text):
                 continue
             if is_constraint and text:
                 self._constrain(file, number, text)
@@ -366,24 +366,24 @@ class _Reading:
         if "[" in text and _has_extras(text):
             raise refused(file.located(number, 0, len(text)), "a constraint can't have extras")
 
-    def _leave_out(self, what: str, file: _File, number: int, why: str) -> None:
+    def _leave_out(self, what: str, line: _Line, why: str) -> None:
         self.is_pips = True
-        self.left_out.append(LeftOut(what, Place(file.path, number), why))
+        self.left_out.append(LeftOut(what, line.place, why))
 
-    def _is_left_out(self, file: _File, number: int, text: str, given: str) -> bool:
+    def _is_left_out(self, line: _Line, text: str) -> bool:
         """Whether a line is a path, an archive or a URL without a name, which is reported then."""
         if not _UNNAMED.match(text) and not ("/" in text and os.path.isdir(_BEHIND_PATH.split(text, 1)[0].rstrip())):
             return False
         try:
             _native.requirement(_native.encoded(text))
         except _native.Fault:
-            self._leave_out(given, file, number, "a path, an archive or a URL without a name")
+            self._leave_out(line.said(text), line, "a path, an archive or a URL without a name")
             return True
         return False
 
-    def _expanded(self, file: _File, number: int, text: str) -> str:
+    def _expanded(self, line: _Line) -> str:
         """A line with the values of its variables, of those that are set and not empty."""
-        values = self._values
+        values, (file, number, text) = self._values, line
         for name in _VARIABLE.findall(text):
             if name in values:
                 continue
@@ -398,23 +398,33 @@ class _Reading:
             raise refused(file.part(number, 0, len(text)), "with the values of its variables the line has a comment")
         return expanded.strip()
 
-    def _without_options(self, file: _File, number: int, text: str) -> str:
+    def _without_options(self, line: _Line, text: str) -> str:
         """A line without its options, of which those are followed that name files, and others are reported."""
         at = 0 if text.startswith("-") else text.find(" -") + 1
         if at and _HASHES.fullmatch(text, at):
-            self._tell_once("--hash", file, number)
+            self._tell_once("--hash", line)
             return text[:at].rstrip()
         try:
             options = self._options_of(text[at:])
         except _NoOption as error:
             if at:
                 return text
-            raise refused(file.located(number, 0, len(text)), str(error)) from None
+            raise refused(line.file.located(line.number, 0, len(text)), self._why_of(line, error)) from None
         self.is_pips = True
         front = text[:at].rstrip()
-        looked_at = "" if front else self._follow(file, number, text, options)
-        self._tell(file, number, options, looked_at)
+        looked_at = "" if front else self._follow(line, text, options)
+        self._tell(line, options, looked_at)
         return front
+
+    def _why_of(self, line: _Line, error: _NoOption) -> str:
+        """Why the words of a line are no options; of a line with variables why they aren't before these are replaced."""
+        if "${" not in line.given:
+            return str(error)
+        try:
+            self._options_of(line.given)
+        except _NoOption as of_given:
+            return str(of_given)
+        return "with the values of its variables the line has no options that can be read"
 
     def _options_of(self, text: str) -> _Options:
         """The options of a text, read as pip reads them."""
@@ -426,64 +436,65 @@ class _Reading:
         _, left = self._parser.parse_args(_words_of(text), values)
         return _Options(named, left)
 
-    def _tell(self, file: _File, number: int, options: _Options, looked_at: str) -> None:
+    def _tell(self, line: _Line, options: _Options, looked_at: str) -> None:
         """Tells what is passed over: each option once, but each of those that ask for something. One of these
         is looked at."""
         for name, value in options.named:
             if name == looked_at:
                 looked_at = ""
                 if name == "-e":
-                    self._leave_out("-e", file, number, "an editable requirement")
+                    self._leave_out("-e", line, "an editable requirement")
             elif name in _ASKING:
                 why = "pip looks at one such option on a line, and at none beside a requirement"
-                self._leave_out(name if name == "-e" else f"{name} {value}", file, number, why)
+                self._leave_out(name if name == "-e" else line.said(f"{name} {value}"), line, why)
             else:
-                self._tell_once(name, file, number)
+                self._tell_once(name, line)
         if options.words:
-            self._leave_out(" ".join(options.words), file, number, "words after an option, which pip passes over")
+            self._leave_out(line.said(" ".join(options.words)), line, "words after an option, which pip passes over")
 
-    def _tell_once(self, name: str, file: _File, number: int) -> None:
+    def _tell_once(self, name: str, line: _Line) -> None:
         if name not in self._named:
             self._named.add(name)
-            self._leave_out(name, file, number, "an option of pip")
+            self._leave_out(name, line, "an option of pip")
 
-    def _follow(self, file: _File, number: int, text: str, options: _Options) -> str:
+    def _follow(self, line: _Line, text: str, options: _Options) -> str:
         """Reads the file that the options name. It gives the one option of a line that asks for something."""
         for option in _ASKING:
             named = options.first(option)
             if named is not None:
                 if option != "-e":
-                    self._include(file, number, text, option, named)
+                    self._include(line, text, option, named)
                 return option
         return ""
 
-    def _include(self, file: _File, number: int, text: str, option: str, named: str) -> None:
+    def _include(self, line: _Line, text: str, option: str, named: str) -> None:
         """Reads the file that an option names, but where it was read already, which is reported. Raises
         `InvalidInput` for one that is being read, or can't be read, at its place in the line."""
         if _URL.match(named):
-            self._leave_out(f"{option} of a URL", file, number, "nothing is fetched")
+            self._leave_out(f"{option} of a URL", line, "nothing is fetched")
             return
-        path = os.path.join(os.path.dirname(file.path), named)
-        where = file.located(number, max(0, text.find(named)), len(text))
+        path = os.path.join(os.path.dirname(line.file.path), named)
+        where = line.file.located(line.number, max(0, text.find(named)), len(text))
         try:
             os.stat(path)
         except ValueError:  # of a NUL, or of half a surrogate pair
-            raise refused(where, f"{path!r} is no path") from None
+            raise refused(where, f"{line.said(path)!r} is no path") from None
         except OSError as error:
             # (making a key of it takes time that is quadratic in its length; of others it is reported below)
             if error.errno == errno.ENAMETOOLONG:
-                raise refused(where, f"{path}: {error.strerror}") from None
+                raise refused(where, f"{line.said(path)}: {error.strerror}") from None
         key = _key_of(path)
         is_constraint = option == "-c"
         if key in self._within:
-            raise refused(where, f"{path} is being read: it names itself, or a file that names it")
+            raise refused(where, f"{line.said(path)} is being read: it names itself, or a file that names it")
         if len(self._within) >= DEEPEST:
             raise refused(where, f"more than {DEEPEST} files deep")
         if (key, is_constraint) in self._done:
-            self._leave_out(f"{option} {named}", file, number, f"read already, by {self._done[key, is_constraint]}")
+            why = f"read already, by {self._done[key, is_constraint]}"
+            self._leave_out(line.said(f"{option} {named}"), line, why)
             return
-        self._done[key, is_constraint] = Place(file.path, number)
-        inner = _File(path, _text_of(path, where))
+        self._done[key, is_constraint] = line.place
+        inner = _File(path, _text_of(path, where, line.said(path)))
         self._within.append(key)
         self._read(inner, is_constraint)
         self._within.pop()
@@ -494,15 +505,15 @@ def _key_of(path: str) -> Tuple[str, str]:
     return os.path.realpath(path), os.path.realpath(os.path.dirname(path))
 
 
-def _text_of(path: str, where: Located) -> str:
-    """The text of a file that another one names at a place."""
+def _text_of(path: str, where: Located, said: str) -> str:
+    """The text of a file that another one names at a place. It is called `said` where it can't be opened."""
     try:
         with open(path, "rb") as file:
             data = read_list(path, file)
     except InvalidInput:
         raise
     except (OSError, ValueError) as error:
-        raise refused(where, f"{path}: {getattr(error, 'strerror', None) or error}") from None
+        raise refused(where, f"{said}: {getattr(error, 'strerror', None) or error}") from None
     return _text(path, data, _coding_of(data))
 
 

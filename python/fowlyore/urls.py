@@ -40,12 +40,16 @@ def _is_marker(text: str) -> bool:
     return True
 
 
-def warn_of_marker_in(url: str, place: str = "") -> None:
+def warn_of_marker_in(url: str, place: str = "", written: Optional[str] = None) -> None:
     """Warns if the URL of a requirement without a marker ends in one. The warning is attributed to the code
-    that called this package."""
+    that called this package. It shows the URL as it was written, if that is given: without the values of variables,
+    which may be secret."""
     marker = marker_in(url)
     if marker is not None:
-        said = f"{place}{url!r} is a URL without a marker after it: write ' ;{marker}', with white space before the ';'"
+        written = url if written is None else written
+        # (a marker that has a value of a variable in it isn't shown)
+        advice = f"write ' ;{marker}', with" if written.endswith(f";{marker}") else "write its marker with"
+        said = f"{place}{written!r} is a URL without a marker after it: {advice} white space before the ';'"
         warnings.warn(said, MarkerInURLWarning, stacklevel=_calls_within() + 1)
 
 

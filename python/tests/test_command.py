@@ -1,6 +1,7 @@
 """The command line."""
 
 import io
+import json
 import os
 import pathlib
 import resource
@@ -9,6 +10,7 @@ import sys
 import tempfile
 import unittest
 from contextlib import redirect_stderr, redirect_stdout
+from unittest import mock
 
 from fowlyore import InvalidInput, __version__, normal
 from fowlyore.__main__ import main, shown
@@ -115,6 +117,54 @@ class Commands(unittest.TestCase):
             status, out, err = run("check", *words)
             self.assertEqual((status, out, err.split("\n")[-2]), (2, "", f"fowlyore: error: unrecognized arguments: {said}"))
 
+    def test_line_feeds_of_names(self):
+        """Names that others choose make no lines of their own: a line feed in one is shown by its number."""
+        with tempfile.TemporaryDirectory() as room:
+            folder, forged = pathlib.Path(room, "a\nfowlyore: b"), "x\nfowlyore: all is well"
+            shown_folder, shown_forged = str(folder).replace("\n", r"\u{a}"), forged.replace("\n", r"\u{a}")
+            folder.mkdir()
+            path, page, house = folder / "r.txt", folder / "foo.json", folder / "house"
+            house.mkdir()
+            (house / f"{forged}.whl").touch()
+            page.write_text(json.dumps({"meta": {"api-version": "1.0"}, "name": "foo", "files": [{"filename": f"{forged}.whl"}]}))
+            path.write_text("foo\n")
+            for words in (["--candidates", page], ["--wheelhouse", house]):
+                status, out, err = run("check", path, *words)
+                self.assertEqual((status, out), (0, "foo none\n"))
+                self.assertIn(shown_forged, err)
+                self.assertNotIn("\nfowlyore: all is well", err)
+            status, out, err = run("check", folder / forged)
+            self.assertEqual((status, out), (3, ""))
+            self.assertEqual(err, f"fowlyore: {shown_folder}/{shown_forged}: No such file or directory\n")
+            path.write_text("foo=1\n")
+            status, out, err = run("normal", path)
+            self.assertEqual((status, err.split("\n")[0]), (2, f"fowlyore: {shown_folder}/r.txt: line 1, byte 3, length 2"))
+            self.assertEqual(err.split("\n")[2:], ["foo=1", "   ^^", ""])
+            path.write_text("-r absent.txt\n")
+            said = f"line 1, byte 3, length 10\n{shown_folder}/absent.txt: No such file or directory\n-r absent.txt\n   {'^' * 10}\n"
+            self.assertEqual(run("normal", path), (2, "", f"fowlyore: {shown_folder}/r.txt: {said}"))
+            path.write_text("foo @ https://e.org/x\n")
+            status, out, err = run("normal", path)
+            self.assertEqual((status, out, err.count("\n")), (2, "", 1))
+            self.assertTrue(err.startswith(f"fowlyore: {shown_folder}/r.txt: line 1: "), err)
+        status, out, err = run("check", "a", forged)
+        self.assertEqual((status, err.split("\n")[-2]), (2, f"fowlyore: error: unrecognized arguments: {shown_forged}"))
+
+    def test_python_version(self):
+        """On CPython the version of the implementation is that of the language; of another one it stays."""
+        with tempfile.TemporaryDirectory() as folder:
+            path = pathlib.Path(folder, "requirements.txt")
+            path.write_text("a ; implementation_version == '3.8.1'\nb ; python_full_version == '3.8.1'\nc ; python_version == '3.8'\n")
+            words = ["check", path, "--candidates", os.devnull, "--python-version", "3.8.1"]
+            for name, wanted in (("cpython", "a none\nb none\nc none\n"), ("pypy", "b none\nc none\n")):
+                with mock.patch.object(sys.implementation, "name", name):
+                    self.assertEqual(run(*words), (0, wanted, ""), name)
+
+    def test_strict_conflicts(self):
+        expected = (EXAMPLES / "apart" / "expected_conflicts.txt").read_text()
+        self.assertEqual(run("conflicts", EXAMPLES / "apart" / "requirements.txt", "--strict"), (4, expected, ""))
+        self.assertEqual(run("conflicts", FIRST / "requirements.txt", "--strict"), (0, "", ""))
+
     def test_words(self):
         self.assertEqual(run("--version"), (0, f"fowlyore {__version__}\n", ""))
         for words in ((), ("chekc",), ("same", "a"), ("check", "a", "--limit", "3"), ("conflicts", "a", "--limit", "x")):
@@ -159,12 +209,15 @@ class Commands(unittest.TestCase):
         ):
             self.assertEqual(run(*words), (2, "", "fowlyore: standard input (-) can be one input alone\n"), words)
 
-    def test_lines_end_at_a_line_feed_alone(self):
+    def test_where_lines_end(self):
+        """As for pip, on the command line, and in a list that is given as a path at a line feed alone."""
         with tempfile.TemporaryDirectory() as folder:
             path = pathlib.Path(folder, "requirements.txt")
+            path.write_bytes("foo\u2028bar\x85baz\n".encode())
+            self.assertEqual(run("normal", path), (0, "foo\nbar\nbaz\n", ""))
             text = "foo ; platform_version == 'a\u2028b'\nbar ; platform_version == 'a\x85b'\n"
             path.write_bytes(text.encode())
-            self.assertEqual(run("normal", path), (0, text, ""))
+            self.assertEqual((normal(path), run("normal", path)[0]), (text.split("\n")[:-1], 2))
 
     def test_empty_words(self):
         """They name no file, and not the working folder, which has a project here, and candidates."""
@@ -209,7 +262,7 @@ class Process(unittest.TestCase):
     def test_other_encodings(self):
         for it in ("ascii", "latin-1", "utf-16"):
             environment = {**os.environ, "PYTHONIOENCODING": it}
-            text = "foo ; platform_version == '\u00e9\u2028'\n".encode()
+            text = "foo ; platform_version == '\u00e9\u2603'\n".encode()
             ran = self.run_module("normal", "-", input=text, env=environment)
             self.assertEqual((ran.returncode, ran.stdout, ran.stderr), (0, text, b""), it)
             ran = self.run_module("normal", "-", input=text + "\u00e9".encode(), env=environment)

@@ -107,20 +107,31 @@ class Plain(InFolder):
             b"\n",
             b"foo\r\n# c\n\n bar>=1 # x\\y",
             b"foo ; platform_version == 'a -b'\n",
-            b"a\x0cb\n",
             b"\xff\n",
             "é".encode(),
         ):
             listing = read(self.write(a=data))
             self.assertEqual((listing.is_plain, listing.text, listing.left_out), (True, data, ()), data)
 
-    def test_lines_that_a_comment_hides(self):
-        """Where a comment goes over what ends a line for pip alone, what follows is a line as it is for pip."""
-        for end in ("\r", "\x0b", "\x0c", "\x1c", "\x85", "\u2028"):
-            for text, wanted in ((f"# c{end}bar\n", ["bar"]), (f"foo # c{end}# d{end} bar>=1 # e\n", ["foo", "bar>=1"])):
-                self.assertEqual(normal(read(self.write(a=text))), wanted, ascii(text))
-            for text in (f"foo # c{end}\n", f"# c{end}# d\n{end}\nfoo{end}\n", f"foo ; platform_version == 'a{end}b'\n"):
-                self.assertTrue(read(self.write(a=text)).is_plain, ascii(text))
+    def test_what_ends_a_line_for_pip_alone(self):
+        """The lines are those of pip, whether or not another line is pip's."""
+        for end in ("\r", "\x0b", "\x0c", "\x1c", "\x1d", "\x1e", "\x85", "\u2028", "\u2029"):
+            for text, wanted in (
+                (f"foo{end}bar\n", ["foo", "bar"]), (f"foo{end}\n\n{end}\n bar{end}", ["foo", "bar"]),
+                (f"# c{end}bar\n", ["bar"]), (f"foo # c{end}# d{end} bar>=1 # e\n", ["foo", "bar>=1"]), (f"foo # c{end}\n", ["foo"]),
+            ):  # fmt: skip
+                for front in ("", "--pre\n"):
+                    listing = read(self.write(a=f"{front}{text}"))
+                    self.assertEqual((normal(listing), self.texts(listing)), (wanted, wanted), ascii(text))
+            for front in ("", "--pre\n"):
+                self.refused(normal, read(self.write(a=f"{front}foo ; platform_version == 'a{end}b'\n")))
+        self.assertTrue(read(self.write(a="foo\r\n\r\nbar\r\n# é\n")).is_plain)
+
+    def test_what_is_white_space_for_pip_alone(self):
+        for text in ("\x1f\nfoo\n", "foo\x1f\n", "\x1ffoo\n\n", "foo\x1f# c\n"):
+            for front in ("", "--pre\n"):
+                listing = read(self.write(a=f"{front}{text}"))
+                self.assertEqual((normal(listing), self.texts(listing)), (["foo"], ["foo"]), ascii(text))
 
     def test_lines_that_a_url_hides(self):
         """As those that a comment hides: for the library a URL may have in it what ends a line for pip."""
@@ -129,8 +140,7 @@ class Plain(InFolder):
                 listing = read(self.write(a=text))
                 wanted = ["a @ https://e.org/x", "bar>=1"][:count]
                 self.assertEqual(([it.text for it in listing.lines], len(check(listing, ENVIRONMENT, ""))), (wanted, count), ascii(text))
-            for text in (f"a @ https://e.org/x{end} {end}\n", f"a ; platform_version == '@{end}b'\n"):
-                self.assertTrue(read(self.write(a=text)).is_plain, ascii(text))
+            self.assertEqual(self.texts(read(self.write(a=f"a @ https://e.org/x{end} {end}\n"))), wanted[:1])
         listing = read(self.write(a="a @ https://e.org/x\x1f#c ; os_name == 'nt'\n"))
         self.assertEqual([it.text for it in listing.lines], ["a @ https://e.org/x"])
 
@@ -169,9 +179,16 @@ class Plain(InFolder):
             self.assertEqual(self.texts(read(self.write(a="foo @ https://${UNSET}/x.whl\n"))), ["foo @ https://e.org/x.whl"])
 
     def test_lines(self):
-        path = self.write(a="foo\n\nbar # c\n")
-        places = [Place(str(path), it) for it in (1, 2, 3)]
-        self.assertEqual(read(path).lines, list(map(ListedLine, ["foo", "", "bar # c"], places)))
+        """They are the requirements alone, each by its line in the file, by which answers number them too."""
+        path = self.write(a="# c\n foo==1  # via app\r\n\n\t\r\n  # d\nbar @ https://e.org/x#y\t# c\nfoo==2 ; os_name == '#'")
+        listing = read(path)
+        places = [Place(str(path), it) for it in (2, 6, 7)]
+        wanted = ["foo==1", "bar @ https://e.org/x#y", "foo==2 ; os_name == '#'"]
+        self.assertEqual((listing.is_plain, listing.lines), (True, list(map(ListedLine, wanted, places))))
+        self.assertEqual([fowlyore.Requirement(it.text).name for it in listing.lines], ["foo", "bar", "foo"])
+        self.assertEqual([listing.place(it).line for it in (1, 2, 7)], [1, 2, 7])
+        self.assertEqual([it.lines for it in conflicts(read(self.write(a="# c\nfoo<1\n\nfoo>1\n")))], [(2, 4)])
+        self.assertEqual(self.texts(read(self.write(a="# c\n\n \n"))), [])
 
     def test_answers_and_faults_are_those_of_the_path(self):
         for text in (
@@ -239,6 +256,25 @@ class Read(InFolder):
             os.environ.pop("UNSET", None)
             listing = read(self.write(a="foo${SPEC}\nbar${EMPTY}\nbaz ; os_name == '${UNSET}${low}'\n${MORE}\n"))
         self.assertEqual(self.texts(listing), ["foo>=1", "bar${EMPTY}", "baz ; os_name == '${UNSET}${low}'", "x"])
+
+    def test_values_of_variables_are_not_told(self):
+        """They may be secret: of a line with variables it is told as it was given."""
+        lines = [
+            "-r b.txt more words ${TOKEN}", "foo==1 -c /x/${TOKEN}", "-r ${TOKEN}.txt", "-r ${TOKEN}.txt", "-c b.txt -c ${TOKEN}",
+            "./${TOKEN}", "--index-url https://${TOKEN}@e.org", "-e ./${TOKEN}",
+        ]  # fmt: skip
+        refused = [
+            "-r ${TOKEN}/x", "-r ${TOKEN}\\\n${TOKEN}x", f"-r ${{TOKEN}}{'x' * 5000}", "--${TOKEN}", "--pre=${TOKEN}", "${MINUS}${TOKEN}",
+        ]  # fmt: skip
+        with mock.patch.dict(os.environ, {"TOKEN": "secret", "MINUS": "--"}):
+            listing = read(self.write(a="".join(f"{it}\n" for it in lines), b="bar\n", secret="baz\n"))
+            faults = [self.fault(self.write(a=f"{it}\n"))[0] for it in refused]
+        self.assertEqual([it.what for it in listing.left_out], [*lines[:2], *lines[3:6], "--index-url", "-e"])
+        self.assertEqual(self.texts(listing), ["bar", "foo==1", "baz", "bar"])
+        self.assertNotIn("secret", " ".join([*self.told(listing), *faults]))
+        whys = [it.split("\n")[1] for it in faults]
+        self.assertEqual(whys[0], "-r ${TOKEN}/x: No such file or directory")
+        self.assertEqual(whys[3:5], ["no such option: --${TOKEN}", "--pre option does not take a value"])
 
     def test_files_stand_beside_those_that_name_them(self):
         (self.folder / "sub").mkdir()

@@ -52,7 +52,7 @@ PATHS = [
 ]
 COMMENTS = ["", "", "", "", " # c", "#c", "\t#", " # c \\", " # --pre", "# - x"]
 LINE_ENDS = ["\n"] * 12 + ["\r\n", "\\\n", "\\\n", " \\\n", "\\\\\n", "\\ \n", "\n\n"]
-OTHER_ENDS = ["\r", "\x0b", "\x0c", "\x1c", "\x85", "\u2028"]
+OTHER_ENDS = ["\r", "\x0b", "\x0c", "\x1c", "\x85", "\u2028", "\u2029", "\x1f\n", "\n\x1f"]
 ENCODINGS = ["utf-8", "utf-8-sig", "utf-16", "latin-1", "cp1252"]
 
 
@@ -79,14 +79,14 @@ def drawn_file(draw, may_include=True):
     options = [it for it in OPTIONS if may_include or not re.search(r"(?:-r|-c|--req\S*|--con\S*)(?: |'|=|o|$)", it)]
     ends = LINE_ENDS
     text = "--pre\n" if draw.random() < 0.4 else ""
-    if text and draw.random() < 0.3:
+    if draw.random() < 0.2:
         ends = LINE_ENDS + OTHER_ENDS
     for _ in range(draw.randrange(7)):
         text += drawn_line(draw, options) + draw.choice(ends)
     encoding = draw.choice(ENCODINGS) if draw.random() < 0.2 else "utf-8"
     if encoding in ("latin-1", "cp1252"):
         text = draw.choice([f"# -*- coding: {encoding} -*-\n", f"# a\n# vim: coding={encoding}\n"]) + re.sub(
-            "[\x85\u2028]", "", text
+            "[\x85\u2028\u2029]", "", text
         )
     return text.encode(encoding)
 
@@ -113,7 +113,7 @@ def told_by_listing(listing):
     """What a listing says; what it left out as a path is a requirement to pip's parser."""
     lines, editables = [], []
     for it in listing.lines:
-        text = re.split(r"(?:^|\s)#", it.text, maxsplit=1)[0].strip() if listing.is_plain else it.text.strip()
+        text = it.text if listing.is_plain else it.text.strip()
         if text:
             lines.append((os.path.basename(it.place.path), it.place.line, text, it.is_constraint))
     for it in listing.left_out:
