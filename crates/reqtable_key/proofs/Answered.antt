@@ -70,15 +70,21 @@ module _ (limit : ℕ) (said : List LineRecord) (none : line_refusal said [] ≡
   in_all_refused None h = absurd h
   in_all_refused (Some most) h = (none, h)
 
-  pub table_refused : (in_all : Option ℕ) (nodes : List NodeRecord) (error : SameError) →
+  refused_by : (in_all : Option ℕ) (nodes : List NodeRecord) (error : SameError) →
       TablesSide Left limit in_all nodes said (Err error) → Keys limit in_all said (Err error)
-  table_refused in_all nodes (errors.Line side number cause) h = absurd h
-  table_refused in_all nodes (errors.TooManyCases Left name) h =
+  refused_by in_all nodes (errors.Line side number cause) h = absurd h
+  refused_by in_all nodes (errors.TooManyCases Left name) h =
       by_bounds limit in_all [] said [] (Err (errors.TooManyCases Left name)) (none, h.1)
-  table_refused in_all nodes (errors.TooManyCases Right name) h = let wrong = h.0 in absurd (cc)
-  table_refused in_all nodes (errors.TooManyCasesInAll Left) h = in_all_refused in_all h.1
-  table_refused in_all nodes (errors.TooManyCasesInAll Right) h = let wrong = h.0 in absurd (cc)
-  table_refused in_all nodes errors.Memory h = by_bounds limit in_all [] said [] (Err errors.Memory) tt
+  refused_by in_all nodes (errors.TooManyCases Right name) h = let wrong = h.0 in absurd (cc)
+  refused_by in_all nodes (errors.TooManyCasesInAll Left) h = in_all_refused in_all h.1
+  refused_by in_all nodes (errors.TooManyCasesInAll Right) h = let wrong = h.0 in absurd (cc)
+  refused_by in_all nodes errors.Memory h = by_bounds limit in_all [] said [] (Err errors.Memory) tt
+
+  pub table_refused : (in_all : Option ℕ) (nodes : List NodeRecord) (names : List (List ℕ)) (error : SameError) →
+      said_among names said ≡ said → TablesSide Left limit in_all nodes (said_among names said) (Err error) →
+      Keys limit in_all said (Err error)
+  table_refused in_all nodes names error among h =
+      refused_by in_all nodes error (subst (λ l. TablesSide Left limit in_all nodes l (Err error)) among h)
 
   no_names : (name : List ℕ) → HasTooMany limit [] name → ⊥
   no_names name h = true≢false (sym h.named)

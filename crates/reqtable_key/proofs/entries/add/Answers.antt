@@ -42,32 +42,36 @@ pub returns-in_ok-insert-in-None-clause-trees : goal.returns-in_ok-insert-in-Non
 returns-in_ok-insert-in-None-clause-trees c = λ q.
     let head = c.as_slice-in-None.result.now in
     let tree = c.args.entry.now.tree in
-    let old = c.args.groups.now in
+    let old = c.get_mut.follows.lender-at-none in
+    let stays : old ≡ c.args.groups.now = c.get_mut.follows.holds-at-none in
     let after = c.push-in-None.new.self in
     let new = c.insert.new.self in
     let changed : (p : List ℕ) → group_of new p ≡ update bytes_eq (group_of old) head (Some after) p =
     btree_map_updates_str head old new (Some after) c.in_ok-insert-in-None.ensures.updates in
     let none : trees_at old head ≡ [] =
-    ap (trees_at old) (c.as_slice-in-None.ensures.value ∙ sym c.as_slice.ensures.value)
+    ap (λ m. trees_at m head) stays
+    ∙ ap (trees_at c.args.groups.now) (c.as_slice-in-None.ensures.value ∙ sym c.as_slice.ensures.value)
     ∙ ap (λ o. option_map_or (λ trees. trees.items) o []) (sym c.in-None.ensures.value) in
     let is : after.items ≡ trees_at old head ++ tree ∷ [] =
     c.in_ok-push-in-None.ensures.items ∙ ap (λ l. l ++ tree ∷ []) (c.new-trees.ensures.items ∙ sym none) in
     trees_added old new head tree after changed is q
-    ∙ ap (λ b. trees_at old q ++ trees_under q ((b, tree) ∷ [])) c.as_slice-in-None.ensures.value
+    ∙ (λ i. trees_at (stays i) q ++ trees_under q ((c.as_slice-in-None.ensures.value i, tree) ∷ []))
 
 pub returns-in_ok-insert-in-None-clause-heads : goal.returns-in_ok-insert-in-None-clause-heads
 returns-in_ok-insert-in-None-clause-heads c = λ q.
     let head = c.as_slice-in-None.result.now in
     let tree = c.args.entry.now.tree in
-    let old = c.args.groups.now in
+    let old = c.get_mut.follows.lender-at-none in
+    let stays : old ≡ c.args.groups.now = c.get_mut.follows.holds-at-none in
     let after = c.push-in-None.new.self in
     let new = c.insert.new.self in
     let changed : (p : List ℕ) → group_of new p ≡ update bytes_eq (group_of old) head (Some after) p =
     btree_map_updates_str head old new (Some after) c.in_ok-insert-in-None.ensures.updates in
     let none : trees_at old head ≡ [] =
-    ap (trees_at old) (c.as_slice-in-None.ensures.value ∙ sym c.as_slice.ensures.value)
+    ap (λ m. trees_at m head) stays
+    ∙ ap (trees_at c.args.groups.now) (c.as_slice-in-None.ensures.value ∙ sym c.as_slice.ensures.value)
     ∙ ap (λ o. option_map_or (λ trees. trees.items) o []) (sym c.in-None.ensures.value) in
     let is : after.items ≡ trees_at old head ++ tree ∷ [] =
     c.in_ok-push-in-None.ensures.items ∙ ap (λ l. l ++ tree ∷ []) (c.new-trees.ensures.items ∙ sym none) in
     heads_added old new head tree after changed is q
-    ∙ ap (λ b. has_group old q || bytes_eq q b) c.as_slice-in-None.ensures.value
+    ∙ (λ i. has_group (stays i) q || bytes_eq q (c.as_slice-in-None.ensures.value i))

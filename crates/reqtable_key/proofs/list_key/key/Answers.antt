@@ -5,11 +5,10 @@ use Rattle.std.proofs.lemmas.Result.{err_from_is_err_and}
 use Rattle.pep508_tree.specs.Meaning.{IsTree}
 use Rattle.pep508_tree.proofs.Conjoining.{extends_itself}
 use Rattle.reqtable_cases.specs.Lines.{is_named, HasTooMany}
-use Rattle.reqtable_compare.specs.Compared.{NoneTooMany, TablesSide}
+use Rattle.reqtable_compare.specs.Compared.{NoneTooMany}
 use Rattle.reqtable_compare.specs.Differences.{listed}
 use Rattle.reqtable_compare.specs.Refusals.{line_refusal}
 use Rattle.reqtable_compare.specs.declared.sides.SameError.TheVariants as errors
-use Rattle.reqtable_compare.specs.declared.sides.Side.TheVariants.{Left}
 use Rattle.reqtable_compare.proofs.Answering.{refused_is, none_refused, refusal_of}
 use Rattle.reqtable_compare.proofs.Bounded.{by_bounds}
 use Rattle.reqtable_compare.proofs.Comparable.{both_comparable}
@@ -42,10 +41,10 @@ returns-in_err-table-clause-key c vars said h =
     let among = ap (λ ns. map (λ name. name.now) ns) c.deref.ensures.value in
     let p = err_from_is_err_and c.from_residual-in_err-table.result c.from_residual-in_err-table.ensures.1 in
     rw (p.1, p.2)
-    (table_refused c.args.limit said none c.args.in_all c.side_table.new.interner.nodes _
-    (subst (λ l. TablesSide Left c.args.limit c.args.in_all c.side_table.new.interner.nodes l _)
+    (table_refused c.args.limit said none c.args.in_all c.side_table.new.interner.nodes
+    (map (λ name. name.now) c.deref.result.now) _
     (all_among (map (λ name. name.now) c.deref.result.now) said (λ q. ap (list_any (bytes_eq q)) among ∙ named q))
-    (c.in_err-table.ensures.made vars said h)))
+    (c.in_err-table.ensures.made vars said h))
 
 pub written-requires : goal.written-requires
 written-requires c = λ q.
