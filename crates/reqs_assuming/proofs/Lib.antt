@@ -1,3 +1,4 @@
 pub mod Parsed
 pub mod Refused
 pub mod Texts
+pub mod Python

@@ -1,8 +1,9 @@
 -- What is assumed of environments, as the text of one marker (PEP 508, "Environment Markers").
 use Rattle.std.specs.Prelude.{◌≡◌, ◌⊎◌, ◌++◌, ◌-◌, ℕ, Bool, List, [], ◌∷◌, codes, map, if◌then◌else◌}
-use Rattle.std.specs.Prelude.{Option, Some, None, Result, Ok, Err, IfSome}
+use Rattle.std.specs.Prelude.{Option, Some, None, Result, Ok, Err, IfSome, String}
 use Rattle.std.specs.List.{flat_map}
-use Rattle.std.specs.String.{String, string_bytes}
+use Rattle.std.specs.Global.{Global}
+use Rattle.std.specs.String.{string_bytes}
 use Rattle.pep440_specifier.specs.Matching.{SpecifierRecord}
 use Rattle.pep440_specifier.specs.SpecifierErrorPrints.{specifier_error_text}
 use Rattle.pep440_specifier.specs.SpecifierReading.{told_specifier}
@@ -38,11 +39,13 @@ abbrev pub listed : Option (List ℕ) → List (List ℕ)
 listed None = []
 listed (Some text) = text ∷ []
 
+abbrev pub real_texts : Bool → List (List ℕ)
+real_texts real = if real then real_text ∷ [] else []
+
 -- the markers of what is assumed: one that is given, one for each specifier of the Python version, and that of
 -- real interpreters if they alone count
 abbrev pub assumed_texts : Option (List ℕ) → List SpecifierRecord → Bool → List (List ℕ)
-assumed_texts marker specifiers real =
-    listed marker ++ (map python_text specifiers ++ (if real then real_text ∷ [] else []))
+assumed_texts marker specifiers real = (listed marker ++ map python_text specifiers) ++ real_texts real
 
 abbrev pub in_parentheses : List ℕ → List ℕ
 in_parentheses text = codes "(" ++ text ++ codes ")"
@@ -56,7 +59,7 @@ all_text [] = []
 all_text (text ∷ []) = text
 all_text (text ∷ other ∷ others) = in_parentheses text ++ flat_map and_text (other ∷ others)
 
-unfoldable pub assumption_text : Option (List ℕ) → List SpecifierRecord → Bool → List ℕ
+abbrev pub assumption_text : Option (List ℕ) → List SpecifierRecord → Bool → List ℕ
 assumption_text marker specifiers real = all_text (assumed_texts marker specifiers real)
 
 -- ---- the condition
@@ -70,22 +73,29 @@ AreSpecifiers (Some text) specifiers = ReadsList (Ok specifiers) text
 pub record IsNoList (text : List ℕ) (fault : Fault Verbatim VerbatimUrlError) : Type 0 where
   pub piece : ListFault
   pub error : VersionSpecifierParseError
-  pub message : String
+  pub message : String Global
   pub reading : list_reading text ≡ Err piece
   pub tells : told_specifier error ≡ Some piece.fault
   pub says : string_bytes message ≡ specifier_error_text error
-  pub is : Some fault ≡ fault_at (sources.String message) text piece.start (piece.end - piece.start)
+  pub is : Some fault ≡ fault_at (sources.String message) piece.line piece.start (piece.end - piece.start)
 
 -- an error is for the text of specifiers, unless it is lack of memory
 abbrev pub RefusesSpecifiers : Option (List ℕ) → Pep508Error Verbatim VerbatimUrlError → Type 0
 RefusesSpecifiers None error = told_error error ≡ None
 RefusesSpecifiers (Some text) error = IfSome (told_error error) (IsNoList text)
 
+-- a marker that is given is one
+abbrev pub IsMarker : Option (List ℕ) → Type 0
+IsMarker marker = IfSome marker (λ text. (parts : List (Part ExpressionRecord)) × ReadsCondition text (Ok parts))
+
+-- an error is for a marker that is none
+abbrev pub RefusesMarker : Option (List ℕ) → Pep508Error Verbatim VerbatimUrlError → Type 0
+RefusesMarker marker error = (text : List ℕ) × (marker ≡ Some text) × ReadsCondition text (Err error)
+
 -- what is assumed has this text: the marker is one by itself, and the specifiers are a list of them
 pub record IsAssumptionText (marker python : Option (List ℕ)) (real : Bool) (text : List ℕ) : Type 0 where
-  pub parts : List (Part ExpressionRecord)
   pub specifiers : List SpecifierRecord
-  pub is_marker : IfSome marker (λ text. ReadsCondition text (Ok parts))
+  pub is_marker : IsMarker marker
   pub are_specifiers : AreSpecifiers python specifiers
   pub is_text : text ≡ assumption_text marker specifiers real
 
@@ -97,6 +107,5 @@ ReadsAssumption marker python real (Ok None) = IsAssumptionText marker python re
 ReadsAssumption marker python real (Ok (Some parts)) =
     (text : List ℕ) × IsAssumptionText marker python real text × ReadsCondition text (Ok parts)
 ReadsAssumption marker python real (Err error) =
-    ((text : List ℕ) × (marker ≡ Some text) × ReadsCondition text (Err error))
-    ⊎ (RefusesSpecifiers python error
-    ⊎ ((text : List ℕ) × IsAssumptionText marker python real text × ReadsCondition text (Err error)))
+    (RefusesMarker marker error ⊎ RefusesSpecifiers python error)
+    ⊎ ((text : List ℕ) × IsAssumptionText marker python real text × ReadsCondition text (Err error))

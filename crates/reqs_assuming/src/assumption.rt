@@ -1,14 +1,15 @@
 //! What is assumed of environments, as a marker's text and as a condition.
 
-ghost use Rattle.std.specs.Prelude.{◌≡◌, ◌++◌, ℕ, List, map, option_map, string_bytes, IfOk, IfErr, IfSome};
+ghost use Rattle.std.specs.Prelude.{◌≡◌, ◌⊎◌, ◌++◌, ℕ, List, map, option_map, string_bytes, IfOk, IfErr, IfSome, OnOk};
 ghost use Rattle.std.specs.List.{flat_map};
 ghost use Rattle.pep440_specifier_list.specs.ListReading.{told_list, list_reading};
 ghost use Rattle.pep440_specifier_list.specs.declared.error.VersionSpecifiersParseError.TheVariants.{Specifier};
 ghost use Rattle.read_outcome.specs.Outcome.{Tells};
 ghost use Rattle.pep508_error.specs.Errors.{told_error};
 ghost use Rattle.reqs_assuming.specs.Assumptions.{assumption_text, assumed_texts, all_text, and_text};
-ghost use Rattle.reqs_assuming.specs.Assumptions.{in_parentheses, python_text, IsNoList};
+ghost use Rattle.reqs_assuming.specs.Assumptions.{in_parentheses, listed, python_text, real_texts, IsNoList};
 ghost use Rattle.reqs_assuming.specs.Assumptions.{AreSpecifiers, RefusesSpecifiers, ReadsAssumption};
+ghost use Rattle.reqs_assuming.specs.Assumptions.{IsAssumptionText, IsMarker, RefusesMarker};
 
 use crate::condition::read_condition;
 use pep440_specifier::VersionSpecifier;
@@ -48,17 +49,42 @@ pub fn assumed_condition(
     ensures { ReadsAssumption (option_map (λ m. m.now) marker.entry) (option_map (λ p. p.now) python.entry)
         real result }
 {
-    if let Some(text) = marker {
-        read_condition(alloc, text)?;
-    }
-    let specifiers = read_python(alloc, python)?;
-    let Ok(text) = assumption_text(alloc, marker, &specifiers, real) else {
-        return Err(Pep508Error::memory(alloc));
-    };
+    let text = assumed_text(alloc, marker, python, real)?;
     if text.is_empty() {
         return Ok(None);
     }
     Ok(Some(read_condition(alloc, text.as_str())?))
+}
+
+/// The text of all that is assumed.
+fn assumed_text(
+    alloc: Global,
+    marker: Option<&str>,
+    python: Option<&str>,
+    real: bool,
+) -> Result<String, Pep508Error<VerbatimUrl>>
+    ensures read { IfOk result (λ text. IsAssumptionText (option_map (λ m. m.now) marker.entry)
+        (option_map (λ p. p.now) python.entry) real (string_bytes text)) }
+    ensures refused { IfErr result (λ error. RefusesMarker (option_map (λ m. m.now) marker.entry) error
+        ⊎ RefusesSpecifiers (option_map (λ p. p.now) python.entry) error) }
+{
+    read_marker(alloc, marker)?;
+    let specifiers = read_python(alloc, python)?;
+    let Ok(text) = assumption_text(alloc, marker, &specifiers, real) else {
+        return Err(Pep508Error::memory(alloc));
+    };
+    Ok(text)
+}
+
+/// Finds out whether a marker that is given is one.
+fn read_marker(alloc: Global, marker: Option<&str>) -> Result<(), Pep508Error<VerbatimUrl>>
+    ensures read { OnOk result (IsMarker (option_map (λ m. m.now) marker.entry)) }
+    ensures refused { IfErr result (RefusesMarker (option_map (λ m. m.now) marker.entry)) }
+{
+    if let Some(text) = marker {
+        read_condition(alloc, text)?;
+    }
+    Ok(())
 }
 
 /// The specifiers of a text, none without one.
@@ -119,17 +145,48 @@ fn assumed_texts(
     ensures { IfOk result (λ texts. map string_bytes texts.items
         ≡ assumed_texts (option_map (λ m. m.now) marker.entry) python.now real) }
 {
+    let mut texts = given_texts(alloc, marker)?;
+    push_specifiers(alloc, &mut texts, python.as_slice())?;
+    push_real(alloc, &mut texts, real)?;
+    Ok(texts)
+}
+
+/// The text of a marker, if one is given.
+fn given_texts(alloc: Global, marker: Option<&str>) -> Result<Vec<String>, AllocError>
+    ensures { IfOk result (λ texts.
+        map string_bytes texts.items ≡ listed (option_map (λ m. m.now) marker.entry)) }
+{
     let mut texts = Vec::new(alloc);
     if let Some(text) = marker {
         texts.push(String::from_str(alloc, text)?)?;
     }
-    for specifier in python.as_slice() {
+    Ok(texts)
+}
+
+/// Appends the comparison of each specifier.
+fn push_specifiers(
+    alloc: Global,
+    texts: &mut Vec<String>,
+    specifiers: &[VersionSpecifier],
+) -> Result<(), AllocError>
+    ensures { OnOk result (map string_bytes texts.new.items
+        ≡ map string_bytes texts.old.items ++ map python_text specifiers.now) }
+{
+    for specifier in specifiers {
         texts.push(python_text(alloc, specifier)?)?;
     }
+    Ok(())
+}
+
+/// Appends `REAL` if it is assumed.
+fn push_real(alloc: Global, texts: &mut Vec<String>, real: bool) -> Result<(), AllocError>
+    ensures { OnOk result
+        (map string_bytes texts.new.items ≡ map string_bytes texts.old.items ++ real_texts real) }
+{
     if real {
         texts.push(String::from_str(alloc, REAL)?)?;
     }
-    Ok(texts)
+    Ok(())
 }
 
 /// The comparison of `python_full_version` with a specifier.

@@ -1,6 +1,6 @@
 -- One more tree under its bytes.
-use Rattle.std.proofs.Common.{◌≡◌, ◌∙◌, ◌||◌, ℕ, Bool, true, false, cond, List, [], ◌∷◌, ◌++◌, map, Option, Some, None}
-use Rattle.std.proofs.Common.{refl, sym, ap, subst, append-nil, is_some, Bor, Vec}
+use Rattle.std.proofs.Common.{◌≡◌, ◌∙◌, ◌||◌, ℕ, Bool, true, false, cond, List, [], ◌∷◌, ◌++◌, map, Option, Some}
+use Rattle.std.proofs.Common.{refl, sym, ap, append-nil, is_some, Bor, Vec}
 use Rattle.std.proofs.lemmas.Cmp.{nat_list_eq_equiv}
 use Rattle.std.specs.BTreeMap.{BTreeMap}
 use Rattle.std.specs.Map.{update}
@@ -9,7 +9,7 @@ use Rattle.std.specs.Str.{bytes_eq}
 use Rattle.pep508_tree.specs.Tree.{Tree}
 use Rattle.reqtable_answer.specs.Groups.{group_of, has_group}
 use Rattle.reqtable_answer.proofs.Tests.{same_bytes}
-use Rattle.reqtable_key.specs.Entries.{is_under, trees_at, trees_under}
+use Rattle.reqtable_key.specs.Entries.{trees_at, trees_under}
 
 or_false : (a : Bool) → (a || false) ≡ a
 or_false true = refl

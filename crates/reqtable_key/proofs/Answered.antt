@@ -1,6 +1,6 @@
 -- What is answered of a list, from what is known of its lines and its table.
-use Rattle.std.proofs.Common.{◌≡◌, ◌∙◌, ◌||◌, ℕ, Bool, true, false, cond, List, [], ◌∷◌, filter, Option, Some, None}
-use Rattle.std.proofs.Common.{Result, Ok, Err, refl, sym, ap, subst, true≢false}
+use Rattle.std.proofs.Common.{◌≡◌, ◌∙◌, ◌||◌, ℕ, Bool, true, false, cond, List, [], ◌∷◌, Option, Some, None}
+use Rattle.std.proofs.Common.{Err, refl, sym, ap, subst, true≢false}
 use Rattle.std.specs.List.{list_any, AllZip}
 use Rattle.std.specs.Str.{bytes_eq}
 use Rattle.std.proofs.lemmas.Cmp.{nat_list_eq_equiv}
@@ -19,7 +19,7 @@ use Rattle.reqtable_compare.specs.declared.sides.Side.TheVariants.{Left, Right}
 use Rattle.reqtable_compare.specs.Compared.{ComparesBy, MayCompare, NoneTooMany, PassesInAll, TablesSide}
 use Rattle.reqtable_compare.specs.Refusals.{line_refusal}
 use Rattle.reqtable_compare.proofs.Bounded.{by_bounds}
-use Rattle.reqtable_key.specs.Keys.{IsKeyOf, Keys}
+use Rattle.reqtable_key.specs.Keys.{Keys}
 
 -- ---- lines of all packages
 

@@ -1,11 +1,8 @@
 -- The regions of a list's cases are those of what it requires.
-use Rattle.std.proofs.Common.{◌≡◌, ◌≢◌, ◌∙◌, ◌&&◌, ◌||◌, ℕ, Bool, true, false, cond, List, [], ◌∷◌, ◌++◌, map}
-use Rattle.std.proofs.Common.{filter, Option, Some, None, refl, sym, ap, subst, true≢false, Bor, Vec}
+use Rattle.std.proofs.Common.{◌≡◌, ◌≢◌, ◌∙◌, ◌&&◌, ◌||◌, ℕ, Bool, true, false, cond, List, [], ◌∷◌, map}
+use Rattle.std.proofs.Common.{Option, Some, None, refl, sym, ap, subst, true≢false, Bor, Vec}
 use Rattle.std.specs.BTreeMap.{BTreeMap}
 use Rattle.std.specs.List.{list_any, flat_map, AllZip, AllByRecursion}
-use Rattle.std.specs.List.Sorted.{IsStrictlySortedBy}
-use Rattle.std.specs.Ordering.{nat_cmp}
-use Rattle.std.specs.Cmp.Lexicographic.{slice_cmp}
 use Rattle.std.specs.Str.{bytes_eq}
 use Rattle.std.proofs.lemmas.Cmp.{nat_list_eq_equiv}
 use Rattle.std.proofs.lemmas.List.Folds.{list_any-append}
@@ -31,14 +28,14 @@ use Rattle.reqtable_cases.specs.Usable.{is_usable, IsRangeOf}
 use Rattle.reqtable_cases.proofs.Marked.{marked_apply}
 use Rattle.reqtable_packages.proofs.Standing.{unnamed}
 use Rattle.reqtable_compare.specs.Differences.{Listed}
-use Rattle.reqtable_compare.specs.Summed.{SummaryRecord, IsSummaryOf, IsOfSet, AreSummaries, some_asks}
-use Rattle.reqtable_compare.proofs.Finding.{Found, found, itself}
+use Rattle.reqtable_compare.specs.Summed.{SummaryRecord, IsSummaryOf, IsOfSet, some_asks}
+use Rattle.reqtable_compare.proofs.Finding.{found, itself}
 use Rattle.reqtable_compare.proofs.Whole.{SideOf, sums_of}
 use Rattle.reqtable_key.specs.Heads.{head_bytes, IsHead}
 use Rattle.reqtable_key.specs.Entries.{EntryRecord, entry_by, entry_if, own_entries, HasNormal, IsNormalIf, AreOwn}
 use Rattle.reqtable_key.specs.Entries.{AreOfPackages, is_under, trees_under, trees_at, any_holds}
 use Rattle.reqtable_key.specs.Entries.{WritesRegions, IsRegionOf}
-use Rattle.reqtable_key.specs.Keys.{Region, is_there, Requires, IsToldIn, AreRegions, IsKeyOf}
+use Rattle.reqtable_key.specs.Keys.{Region, is_there, Requires, IsToldIn, IsKeyOf}
 use Rattle.reqtable_key.proofs.Grouped.{is_at, there_at, any_under}
 
 abbrev Range : Type 0

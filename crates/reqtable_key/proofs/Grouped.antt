@@ -1,6 +1,6 @@
 -- Where the regions of groups hold.
 use Rattle.std.proofs.Common.{◌≡◌, ◌∙◌, ◌&&◌, ◌||◌, ℕ, Bool, true, false, cond, List, [], ◌∷◌, map, filter}
-use Rattle.std.proofs.Common.{refl, sym, ap, subst, true≢false, Bor, Vec}
+use Rattle.std.proofs.Common.{refl, sym, ap, true≢false, Bor, Vec}
 use Rattle.std.specs.BTreeMap.{BTreeMap}
 use Rattle.std.specs.List.{list_any, AllByRecursion}
 use Rattle.std.specs.Str.{bytes_eq}

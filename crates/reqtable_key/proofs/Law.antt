@@ -1,11 +1,10 @@
 -- Keys of lists are the same exactly where the lists require the same.
-use Rattle.std.proofs.Common.{◌≡◌, ◌≢◌, ◌∙◌, ◌&&◌, ◌||◌, ◌↔◌, ℕ, Bool, true, false, List, [], ◌∷◌, ◌++◌, map}
-use Rattle.std.proofs.Common.{refl, sym, ap, subst, append-nil, true≢false}
-use Rattle.std.proofs.lemmas.Bool.{cases_Bool}
+use Rattle.std.proofs.Common.{◌≡◌, ◌≢◌, ◌∙◌, ◌&&◌, ◌||◌, ℕ, Bool, true, false, List, [], ◌∷◌, ◌++◌, map}
+use Rattle.std.proofs.Common.{refl, sym, ap, subst, true≢false}
 use Rattle.std.proofs.lemmas.Cmp.{nat_list_cmp_total, nat_list_eq_equiv}
 use Rattle.std.proofs.lemmas.Map.Lookups.{exact_bytes}
 use Rattle.std.proofs.lemmas.Map.Text.{is_eq-slice_cmp}
-use Rattle.std.specs.List.{list_any, AllByRecursion}
+use Rattle.std.specs.List.{AllByRecursion}
 use Rattle.std.specs.List.Sorted.{IsStrictlySortedBy}
 use Rattle.std.specs.Ordering.{nat_cmp, is_eq, ordering_reverse, then_cmp}
 use Rattle.std.specs.Cmp.Lexicographic.{slice_cmp}
@@ -24,8 +23,7 @@ use Rattle.pep508_requirement_text.specs.FrontReading.{Front}
 use Rattle.reqtable_answer.proofs.Tests.{same_bytes as same_names}
 use Rattle.reqtable_requirements.specs.LineReading.{LineRecord}
 use Rattle.reqtable_cases.specs.Requires.{RequireAlike, RequireTheSame, AskAlike, asked_of}
-use Rattle.reqtable_key.specs.Heads.{IsHead}
-use Rattle.reqtable_key.specs.Keys.{Region, is_there, Requires, AreRegions, IsToldIn, region_bytes, IsKeyOf}
+use Rattle.reqtable_key.specs.Keys.{Region, is_there, AreRegions, region_bytes}
 use Rattle.reqtable_key.specs.Keys.{OneKeyOfLists}
 use Rattle.reqtable_key.proofs.Told.{head_of_one, one_head, less_not_equal, greater_not_equal}
 

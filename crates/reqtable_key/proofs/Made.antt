@@ -1,6 +1,6 @@
 -- The trees of entries are of a table's nodes.
-use Rattle.std.proofs.Common.{◌≡◌, ℕ, Bool, true, false, cond, List, [], ◌∷◌, ◌++◌, map, filter, Option, Some, None}
-use Rattle.std.proofs.Common.{refl, sym, ap, subst}
+use Rattle.std.proofs.Common.{ℕ, Bool, true, false, cond, List, [], ◌∷◌, map, filter, Option, Some, None}
+use Rattle.std.proofs.Common.{sym, subst}
 use Rattle.std.specs.List.{AllByRecursion, AllZip, flat_map}
 use Rattle.version_ranges.specs.Point.{Point}
 use Rattle.version_ranges.proofs.Membership.{all_append}

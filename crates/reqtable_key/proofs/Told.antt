@@ -2,13 +2,12 @@
 use Rattle.std.proofs.Common.{◌≡◌, ◌∙◌, ℕ, Bool, true, false, List, [], ◌∷◌, ◌++◌, refl, sym, ap, arith}
 use Rattle.std.proofs.lemmas.Map.Lookups.{exact_bytes}
 use Rattle.std.specs.List.{list_any}
-use Rattle.std.specs.Ordering.{nat_cmp}
 use Rattle.std.specs.Cmp.Lexicographic.{slice_cmp}
 use Rattle.std.specs.Str.{bytes_eq}
 use Rattle.std.specs.declared.cmp.Ordering.TheVariants.{Less, Equal, Greater}
 use Rattle.version_ranges.specs.Point.{Point, BelowAll, At, JustAbove, point_cmp}
 use Rattle.version_ranges.specs.Held.{holds_at}
-use Rattle.version_ranges.specs.Turns.{flips, is_held, reaches}
+use Rattle.version_ranges.specs.Turns.{flips, reaches}
 use Rattle.version_ranges.specs.HashingLaws.{then_equal}
 use Rattle.version_ranges.specs.OrderLaws.{points_total}
 use Rattle.version_ranges.proofs.Membership.{canonical, like}
@@ -20,10 +19,9 @@ use Rattle.pep508_diagram.specs.Text.{text_cmp}
 use Rattle.pep508_marker_key.specs.Told.{TellApart, listed_bytes}
 use Rattle.pep508_marker_key.proofs.Apart.{heads, tails, texts_apart, versions_apart, listed_apart, same_bytes}
 use Rattle.pep508_requirement_text.specs.FrontReading.{Front}
-use Rattle.reqtable_answer.specs.Asks.{has_extra, names_prerelease}
+use Rattle.reqtable_answer.specs.Asks.{names_prerelease}
 use Rattle.reqtable_answer.proofs.OneAnswer.{same_texts}
 use Rattle.reqtable_cases.specs.Requires.{AskAlike}
-use Rattle.reqtable_cases.specs.Usable.{points_of}
 use Rattle.reqtable_key.specs.Heads.{point_bytes, flag_bytes, head_bytes, IsHead}
 
 abbrev Range : Type 0

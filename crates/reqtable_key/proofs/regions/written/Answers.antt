@@ -1,4 +1,4 @@
-use Rattle.std.proofs.Common.{◌≡◌, ◌∙◌, ◌++◌, ◌∷◌, [], List, ℕ, Some, map, sym, ap, subst, rules}
+use Rattle.std.proofs.Common.{◌≡◌, ◌∙◌, ◌∷◌, [], Some, map, sym, ap, subst, rules}
 use Rattle.std.specs.List.{list_any, AllByRecursion}
 use Rattle.std.specs.List.Sorted.{IsStrictlySortedBy}
 use Rattle.std.specs.Map.Iter.{deref_pair}
@@ -10,7 +10,7 @@ use Rattle.std.proofs.lemmas.List.{map-append}
 use Rattle.std.proofs.lemmas.Map.Iter.{btree_map_turn, iter_end}
 use Rattle.pep508_tree.specs.Meaning.{IsTree}
 use Rattle.pep508_tree.proofs.Conjoining.{extends_on}
-use Rattle.reqtable_answer.specs.Groups.{group_of, has_group}
+use Rattle.reqtable_answer.specs.Groups.{group_of}
 use Rattle.reqtable_answer.proofs.Packages.{by_name_total, names, names_rise, names_found}
 use Rattle.reqtable_key.specs.Entries.{AreWritten, WritesRegions, trees_at}
 use Rattle.reqtable_key.proofs.Writing.{one_written, all_written, trees_kept}
