@@ -44,7 +44,6 @@ module _ {Y : Type 0} (old new : BTreeMap (Bor (List ℕ)) (Vec Tree Y)) (head :
   pub trees_added : (q : List ℕ) → trees_at new q ≡ trees_at old q ++ trees_under q ((head, tree) ∷ [])
   trees_added q =
       ap trees_in (changed q)
-
       ∙ trees_by q (bytes_eq head q) refl
 
   heads_by : (q : List ℕ) (b : Bool) → bytes_eq head q ≡ b →
