@@ -1,7 +1,6 @@
 -- How a call on lists ends where only the environments and extras count for which a marker holds.
 use Rattle.std.specs.Prelude.{◌⊎◌, ℕ, false, List, [], ◌∷◌}
 use Rattle.pep508_marker_parser.specs.MarkerReading.{Marker}
-use Rattle.pep508_tree.specs.Meaning.{NodeRecord}
 use Rattle.pep508_url.specs.Vars.{Variables}
 use Rattle.reqtable_assumption.specs.Where.{Condition}
 use Rattle.reqs_json.specs.declared.format.Format.{Format}
