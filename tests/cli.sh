@@ -608,6 +608,9 @@ wants "an assumption that is no marker, before a list that doesn't open" 2 "" \
     "reqs: assumption: line 1, byte 0, length 3${n}$bad${n}bad${n}^^^$n"
 run conflicts absent --assume bad --format json
 wants "an assumption that is no marker, as an object" 2 "" "$(object assumption 3 1 "$bad"'\nbad\n^^^' null 0)$n"
+run conflicts absent --python '>=3.9,x'
+wants "Python versions that are no specifiers, before a list that doesn't open" 2 "" \
+    "reqs: assumption: line 1, byte 6, length 1${n}Unexpected end of version specifier, expected operator${n}>=3.9,x${n}      ^$n"
 run normal absent
 wants "a list that doesn't open, for normal" 3 "" "reqs: absent: read fault$n"
 run check bytes E absent
@@ -855,6 +858,31 @@ run conflicts R --assume "os_name == 'a'" --assume "os_name == 'b'"
 wants "two assumptions" 2 "" SOMETHING
 run same R R --assume ''
 wants "an empty assumption" 2 "" SOMETHING
+run conflicts R --python
+wants "Python versions without specifiers" 2 "" SOMETHING
+run conflicts R --python '>=3.9' --python '<3.13'
+wants "specifiers twice" 2 "" SOMETHING
+run same R R --python '===3.9'
+wants "a specifier that no marker has" 2 "" SOMETHING
+run conflicts R --python ''
+wants "no specifiers" 0 "" ""
+for words in "check R E C" "matrix R M C" "normal R"; do
+    # shellcheck disable=SC2086
+    run $words --assume-real
+    wants "real interpreters for ${words%% *}" 2 "" SOMETHING
+done
+{
+    printf "foo>=2 ; sys_platform == 'win32'\nfoo<2 ; os_name == 'posix'\n"
+    printf "bar>=2 ; python_version < '3.9'\nbar<2\n"
+} >places
+run conflicts places
+wants "conflicts of any environments" 0 "bar 3,4${n}foo 1,2$n" ""
+run conflicts places --python '>=3.9,<3.13'
+wants "conflicts of some Python versions" 0 "foo 1,2$n" ""
+run conflicts places --assume-real
+wants "conflicts of real interpreters" 0 "bar 3,4$n" ""
+run conflicts places --assume-real --python '>=3.9' --assume "os_name == 'posix'"
+wants "all assumptions together" 0 "" ""
 run covers R R --assume "python_version <= '3.18446744073709551615'"
 wants "an assumption with a number that can't be raised" 2 "" SOMETHING
 run normal
