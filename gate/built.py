@@ -21,6 +21,8 @@ from prover import MARK, write
 def lay_out(prover, name):
     """Lays out a program, or the library for C, that the store has, and returns a status."""
     out, entry = os.path.join(prover.crates[name].folder, "out"), prover.entry(name)
+    # (an entry that can't be unpacked is taken for damaged, and removed)
+    os.makedirs(out, exist_ok=True)
     if not prover.store.take(entry, out, prover.parts(name)):
         print(f"gate: the store has no {name}", file=sys.stderr)
         return 1
